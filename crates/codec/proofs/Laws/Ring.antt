@@ -1,0 +1,142 @@
+-- Laws of the ring file's checks. Assumes nothing.
+use mathlib.Core.Path.{_≡_, refl, sym, ap, _∙_}
+use mathlib.Core.Bool.{Bool, true, false, cond}
+use mathlib.Core.List.{List, [], _∷_, _++_}
+use Prim.Native.Nat.{ℕ, zero, suc, _+_, _-_, _*_, _<_, _≤_, zero-le}
+use native.Mathlib.Numerals.{add-one}
+use native.Mathlib.Omega.{arith}
+use borrow.Author.Tests.{ltb-false, eqb-true, eqb-false, not-false, ne-eqb}
+use lib.Dec.{eqb}
+use lib.ListN.{length, take, drop, getD, set, replicate, length-append, drop-of-length-le}
+use lib.Seq.{take-suc, drop-cons, set-at, take-at, append-snoc}
+use Rattle.codec.specs.Order.{firstOf}
+use Rattle.codec.specs.Octets.{zeros}
+use Rattle.codec.specs.Bits.{bits}
+use Rattle.codec.specs.Ring.{form, others, count, limit, zeroBits, addressesOf, headTests, addressTests, addressesTests, headRefusal, addressRefusal, addressesRefusal, ringRefusal, filled, ringOf, noRing, readRing}
+use Rattle.codec.specs.declared.ring.RingRead.{RingRead}
+use Rattle.codec.proofs.Laws.Bits.{bits-below}
+use Rattle.codec.proofs.Laws.Order.{Apart, first-append, none-gives, none-holds, first-passed, first-none, first-some}
+
+-- ---- the addresses one after the other
+
+module _ (ms : List ℕ) (i : ℕ) (more : i < length ms) where
+  abbrev these : List (Bool × ℕ)
+  these = addressTests (take i ms) (getD ms i 0)
+
+  abbrev later : ℕ
+  later = firstOf 0 (addressesTests (take (i + 1) ms) (drop (i + 1) ms))
+
+  split : firstOf 0 (addressesTests (take i ms) (drop i ms)) ≡ firstOf later these
+  split = rw (drop-cons ms i 0 more, add-one i, take-suc ms i 0 more)
+
+  pub addresses-more : addressRefusal (take i ms) (getD ms i 0) ≡ 0 → firstOf 0 (addressesTests (take i ms) (drop i ms)) ≡ later
+  unfolding addressRefusal
+  addresses-more e = split ∙ first-none 0 later these ((λ z. omega arith), ((λ z. omega arith), tt)) e
+
+  pub addresses-here : (addressRefusal (take i ms) (getD ms i 0) ≡ 0 → ⊥) → firstOf 0 (addressesTests (take i ms) (drop i ms)) ≡ addressRefusal (take i ms) (getD ms i 0)
+  unfolding addressRefusal
+  addresses-here n = split ∙ first-some 0 later these n
+
+pub addresses-none : (ms : List ℕ) (i : ℕ) → length ms ≤ i → firstOf 0 (addressesTests (take i ms) (drop i ms)) ≡ 0
+addresses-none ms i h = rw (drop-of-length-le ms h)
+
+-- ---- the addresses in their array
+
+pub length-addresses : (file : List ℕ) (n : ℕ) → length (addressesOf file n) ≡ n
+unfolding addressesOf
+length-addresses file zero = refl
+length-addresses file (suc n) = length-append (addressesOf file n) (bits file (16 + n * 48) 48 ∷ []) ∙ ap (λ (k : ℕ). k + 1) (length-addresses file n) ∙ add-one n
+
+-- one address more, stored over a zero
+pub addresses-stored : (file : List ℕ) (i : ℕ) → i < 64 → set (filled (addressesOf file i)) i (bits file (16 + i * 48) 48) ≡ filled (addressesOf file (i + 1))
+unfolding addressesOf
+addresses-stored file i h =
+    let long : length (addressesOf file i) ≡ i = length-addresses file i in
+    let e : 64 - i ≡ suc (64 - (i + 1)) = omega arith in
+    let f : length (addressesOf file (i + 1)) ≡ i + 1 = length-addresses file (i + 1) in
+    rw (long, e, f, add-one i)
+    (set-at (addressesOf file i) 0 (replicate (64 - suc i) 0) (bits file (16 + i * 48) 48) i long
+    ∙ sym (append-snoc (addressesOf file i) (bits file (16 + i * 48) 48) (replicate (64 - suc i) 0)))
+
+pub members-filled : (members : List ℕ) (n : ℕ) → length members ≡ n → take n (filled members) ≡ members
+members-filled members n e = take-at members (zeros (64 - length members)) n e
+
+-- ---- the refusals before the addresses, and all of them
+
+-- what a file is whose head passes
+pub record HeadGood (file : List ℕ) : Type 0 where
+  pub long : 2 ≤ length file
+  pub form-one : form file ≡ 1
+  pub zero-bits : zeroBits file ≡ 0
+  pub another : others file ≡ 0 → ⊥
+  pub some-limit : limit file ≡ 0 → ⊥
+  pub sized : length file ≡ 2 + 6 * count file
+
+-- no refusal is 0
+head-apart : (file : List ℕ) → Apart 0 (headTests file)
+head-apart file = ((λ z. omega arith), ((λ z. omega arith), ((λ z. omega arith), ((λ z. omega arith), ((λ z. omega arith), ((λ z. omega arith), tt))))))
+
+pub head-good : (file : List ℕ) → headRefusal file ≡ 0 → HeadGood file
+unfolding headRefusal
+head-good file e =
+    let n = none-holds 0 (headTests file) (head-apart file) e in
+    record {
+      long = ltb-false _ _ (n .0);
+      form-one = eqb-true _ _ (not-false _ (n .1 .0));
+      zero-bits = eqb-true _ _ (not-false _ (n .1 .1 .0));
+      another = eqb-false _ _ (n .1 .1 .1 .0);
+      some-limit = eqb-false _ _ (n .1 .1 .1 .1 .0);
+      sized = eqb-true _ _ (not-false _ (n .1 .1 .1 .1 .1 .0));
+    }
+
+pub refused-early : (file : List ℕ) → (headRefusal file ≡ 0 → ⊥) → ringRefusal file ≡ headRefusal file
+unfolding headRefusal ringRefusal
+refused-early file n = first-append 0 (headTests file) (addressesTests [] (addressesOf file (count file))) ∙ first-some 0 _ (headTests file) n
+
+pub refused-late : (file : List ℕ) → headRefusal file ≡ 0 → ringRefusal file ≡ addressesRefusal (addressesOf file (count file))
+unfolding headRefusal ringRefusal addressesRefusal
+refused-late file e =
+    first-append 0 (headTests file) (addressesTests [] (addressesOf file (count file)))
+    ∙ first-none 0 _ (headTests file) (head-apart file) e
+
+-- ---- reading
+
+pub read-refused : (file : List ℕ) (k : ℕ) → ringRefusal file ≡ k → (k ≡ 0 → ⊥) → readRing file ≡ noRing k
+unfolding readRing
+read-refused file k e n = rw (e, ne-eqb k 0 n)
+
+pub read-good : (file : List ℕ) → ringRefusal file ≡ 0 → readRing file ≡ record { number = 0; ring = ringOf file }
+unfolding readRing
+read-good file e = rw (e)
+
+-- what the code reads, step by step, has the file's refusal
+pub read-steps : (file : List ℕ) (n number : ℕ) (addresses ms : List ℕ) → headRefusal file ≡ 0 → n ≡ count file
+    → addresses ≡ filled (addressesOf file n) → ms ≡ take n addresses → number ≡ addressesRefusal ms → ringRefusal file ≡ number
+read-steps file n number addresses ms h en ea em er =
+    let m : ms ≡ addressesOf file n = em ∙ ap (take n) ea ∙ members-filled (addressesOf file n) n (length-addresses file n) in
+    refused-late file h ∙ cc (m, en, er)
+
+-- whatever is read, there are at most 64 members
+pub few-members : (file : List ℕ) → readRing file .ring .n ≤ 64
+unfolding readRing ringOf
+few-members file = go (eqb (ringRefusal file) 0)
+  where
+    go : (b : Bool) → (cond b (record { number = 0; ring = ringOf file }) (noRing (ringRefusal file))) .ring .n ≤ 64
+    go true = omega (arith, bits-below file 4 6)
+    go false = zero-le
+
+-- a number of 0 says that no check refuses
+pub read-zero : (file : List ℕ) → readRing file .number ≡ 0 → ringRefusal file ≡ 0
+unfolding readRing
+read-zero file e = go (eqb (ringRefusal file) 0) refl e
+  where
+    go : (b : Bool) → eqb (ringRefusal file) 0 ≡ b → (cond b (record { number = 0; ring = ringOf file }) (noRing (ringRefusal file))) .number ≡ 0 → ringRefusal file ≡ 0
+    go true h e′ = eqb-true _ _ h
+    go false h e′ = e′
+
+-- and so the head's do not
+pub head-passed : (file : List ℕ) → ringRefusal file ≡ 0 → headRefusal file ≡ 0
+unfolding ringRefusal headRefusal
+head-passed file e =
+    let later : List (Bool × ℕ) = addressesTests [] (addressesOf file (count file)) in
+    first-passed 0 (headTests file) (none-gives (firstOf 0 later) 0 (headTests file) (head-apart file) (sym (first-append 0 (headTests file) later) ∙ e))

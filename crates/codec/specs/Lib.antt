@@ -1,0 +1,5 @@
+pub mod Order
+pub mod Octets
+pub mod Bits
+pub mod Ring
+pub mod Packet

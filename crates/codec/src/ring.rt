@@ -1,0 +1,163 @@
+// The ring file, and the good ring that it gives.
+ghost use mathlib.Core.Path.{_≡_};
+ghost use mathlib.Core.List.{_++_};
+ghost use Prim.Native.Nat.{_+_, _*_, _≤_, _<_, _^_};
+ghost use lib.ListN.{length, take, drop, getD};
+ghost use Rattle.codec.specs.Ring.{badAddress, position, headRefusal, addressesOf, addressRefusal, addressesRefusal, readRing, noRing, filled};
+use crate::bits::bits;
+
+// A ring by value: how many members, the retry limit, the members' addresses in ring order and then zeros.
+pub struct Ring {
+    pub n: usize,
+    pub limit: u8,
+    pub addresses: [u64; 64],
+}
+
+// What reading a ring file gives: 0 and the ring, or the number of the refusal and no ring.
+pub struct RingRead {
+    pub number: u32,
+    pub ring: Ring,
+}
+
+// The addresses of a ring's members: the first of an array, as many as there are.
+pub fn members(addresses: &[u64], n: usize) -> &[u64]
+    ensures { λ r. ⌜ now r ≡ take n (now (addresses .entry)) ⌝ }
+{
+    if n <= addresses.len() {
+        &addresses[..n]
+    } else {
+        addresses
+    }
+}
+
+// The ring position of an address: the number of members where none has it.
+pub fn position(members: &[u64], address: u64) -> usize
+    ensures { λ r. ⌜ r ≡ position (now (members .entry)) address ⌝ }
+{
+    let mut i = 0;
+    while i < members.len() {
+        if members[i] == address {
+            break;
+        }
+        i += 1;
+    }
+    i
+}
+
+pub fn bad_address(address: u64) -> bool
+    ensures { λ r. ⌜ r ≡ badAddress address ⌝ }
+{
+    if address == 0 {
+        return true;
+    }
+    address / 1099511627776 % 2 == 1
+}
+
+// The refusal of the address at a ring position, or 0.
+pub fn address_refusal(members: &[u64], i: usize) -> u32
+    requires { ⌜ i < length (now members) ⌝ }
+    ensures { λ r. ⌜ r ≡ addressRefusal (take i (now (members .entry))) (getD (now (members .entry)) i 0) ⌝ }
+{
+    let address = members[i];
+    if bad_address(address) {
+        return 6;
+    }
+    if position(&members[..i], address) < i {
+        return 7;
+    }
+    0
+}
+
+// The refusal of the first address that has one, or 0.
+pub fn addresses_refusal(members: &[u64]) -> u32
+    ensures { λ r. ⌜ r ≡ addressesRefusal (now (members .entry)) ⌝ }
+{
+    let mut number: u32 = 0;
+    let mut i = 0;
+    while i < members.len() {
+        number = address_refusal(members, i);
+        if number != 0 {
+            break;
+        }
+        i += 1;
+    }
+    number
+}
+
+// The refusals before the addresses, or 0.
+pub fn head_refusal(file: &[u8]) -> u32
+    ensures { λ r. ⌜ r ≡ headRefusal (now (file .entry)) ⌝ }
+{
+    if file.len() < 2 {
+        return 1;
+    }
+    if bits(file, 0, 4) != 1 {
+        return 2;
+    }
+    if bits(file, 14, 2) != 0 {
+        return 3;
+    }
+    let more = bits(file, 4, 6);
+    if more == 0 {
+        return 4;
+    }
+    if bits(file, 10, 4) == 0 {
+        return 5;
+    }
+    if file.len() as u64 != 2 + 6 * (more + 1) {
+        return 1;
+    }
+    0
+}
+
+// The addresses that a file holds, and then zeros.
+pub fn addresses_of(file: &[u8], n: usize) -> [u64; 64]
+    requires { ⌜ (n ≤ 64) × (16 + n * 48 ≤ length (now file) * 8) ⌝ }
+    ensures { λ r. ⌜ r ≡ filled (addressesOf (now (file .entry)) n) ⌝ }
+{
+    let mut addresses = [0u64; 64];
+    let mut i = 0;
+    while i < n {
+        addresses[i] = bits(file, 16 + i * 48, 48);
+        i += 1;
+    }
+    addresses
+}
+
+pub fn no_ring(number: u32) -> RingRead
+    ensures { λ r. ⌜ r ≡ noRing number ⌝ }
+{
+    RingRead {
+        number,
+        ring: Ring {
+            n: 0,
+            limit: 0,
+            addresses: [0u64; 64],
+        },
+    }
+}
+
+// Reads a ring file: every check in the page's order, then the ring.
+pub fn read(file: &[u8]) -> RingRead
+    ensures { λ r. ⌜ r ≡ readRing (now (file .entry)) ⌝ }
+{
+    let early = head_refusal(file);
+    if early != 0 {
+        return no_ring(early);
+    }
+    let n = bits(file, 4, 6) as usize + 1;
+    let addresses = addresses_of(file, n);
+    let number = addresses_refusal(members(&addresses, n));
+    if number != 0 {
+        return no_ring(number);
+    }
+    let limit = bits(file, 10, 4) as u8;
+    RingRead {
+        number: 0,
+        ring: Ring {
+            n,
+            limit,
+            addresses,
+        },
+    }
+}

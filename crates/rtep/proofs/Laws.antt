@@ -1,0 +1,2 @@
+-- Laws of the exports' definitions.
+pub mod Told

@@ -1,0 +1,2 @@
+-- The laws of what a driver is told.
+pub mod Laws

@@ -1,0 +1,265 @@
+// What a driver in C calls of the codec: numbers, octet slices, and fixed arrays for what is told.
+ghost use mathlib.Core.Path.{_≡_};
+ghost use mathlib.Core.List.{List, [], _∷_, _++_};
+ghost use Prim.Native.Nat.{_+_, _≤_, _<_};
+ghost use lib.ListN.{length, take};
+ghost use Rattle.codec.specs.Octets.{laid};
+ghost use Rattle.codec.specs.Packet.{readPacket};
+ghost use Rattle.rtep.specs.declared.Made.the-variants.{Nothing, Packet as Of};
+ghost use Rattle.rtep.specs.Told.{toldRing, RingTold, valuesOf, shortValues, headValues, readNumber, readTold, shortMade, headMade, madeOf, madeRefusal, WriteTold};
+use codec::packet::Head;
+use codec::packet::Packet;
+use codec::packet::Short;
+use codec::reading::Read;
+use codec::reading::read_packet;
+use codec::ring::Ring;
+use codec::writing::write_packet;
+
+// A packet that eight numbers give, or nothing where they are out of their ranges.
+pub enum Made {
+    Nothing,
+    Packet(Packet),
+}
+
+// What is told, with the addresses of a ring's members from the third number on.
+pub fn addresses_told(told: [u64; 66], addresses: [u64; 64], n: usize) -> [u64; 66]
+    requires { ⌜ n ≤ 64 ⌝ }
+    ensures { λ r. ⌜ r ≡ laid told 2 (take n addresses) ⌝ }
+{
+    let mut next = told;
+    let mut i = 0;
+    while i < n {
+        next[2 + i] = addresses[i];
+        i += 1;
+    }
+    next
+}
+
+// What is told, with a ring's N, R, and addresses in ring order. Numbers beyond stay.
+pub fn ring_told(told: [u64; 66], ring: Ring) -> [u64; 66]
+    requires { ⌜ ring .n ≤ 64 ⌝ }
+    ensures { λ r. ⌜ r ≡ toldRing told ring ⌝ }
+{
+    let addresses = ring.addresses;
+    let mut next = told;
+    next[0] = ring.n as u64;
+    next[1] = ring.limit as u64;
+    addresses_told(next, addresses, ring.n)
+}
+
+// Reads a ring file, and tells its ring.
+#[no_mangle]
+pub extern "C" fn rtep_ring(file: &[u8], told: &mut [u64; 66]) -> u32
+    ensures { λ r. ⌜ RingTold (now (file .entry)) (now (told .entry)) r (now (told .exit)) ⌝ }
+{
+    let read = codec::ring::read(file);
+    let number = read.number;
+    if number != 0 {
+        return number;
+    }
+    let ring = read.ring;
+    let old = *told;
+    *told = ring_told(old, ring);
+    0
+}
+
+// The eight numbers of a packet: identifier, priority, number, master, failing, named, channel, length.
+pub fn values_of(p: Packet) -> [u64; 8]
+    ensures { λ r. ⌜ r ≡ valuesOf p ⌝ }
+{
+    match p {
+        Packet::Token(q) => short_values(1, q),
+        Packet::Transmit(q) => short_values(2, q),
+        Packet::Information(h) => head_values(h),
+    }
+}
+
+fn short_values(identifier: u64, p: Short) -> [u64; 8]
+    ensures { λ r. ⌜ r ≡ shortValues identifier p ⌝ }
+{
+    [
+        identifier,
+        p.priority as u64,
+        p.number as u64,
+        p.master,
+        p.failing,
+        p.named,
+        0,
+        0,
+    ]
+}
+
+fn head_values(h: Head) -> [u64; 8]
+    ensures { λ r. ⌜ r ≡ headValues h ⌝ }
+{
+    [
+        3,
+        h.priority as u64,
+        h.number as u64,
+        0,
+        0,
+        0,
+        h.channel as u64,
+        h.length as u64,
+    ]
+}
+
+// Reads a packet against a ring, and tells its eight numbers.
+#[no_mangle]
+pub extern "C" fn rtep_read(ring: &[u64], packet: &[u8], told: &mut [u64; 8]) -> u32
+    ensures { λ r. ⌜ (r ≡ readNumber (readPacket (now (ring .entry)) (now (packet .entry)))) × (now (told .exit) ≡ readTold (readPacket (now (ring .entry)) (now (packet .entry))) (now (told .entry))) ⌝ }
+{
+    match read_packet(ring, packet) {
+        Read::Refused(number) => number,
+        Read::Good(p) => {
+            *told = values_of(p);
+            0
+        }
+    }
+}
+
+// The short packet of eight numbers, whose channel and length are to be 0.
+fn short_made(
+    identifier: u64,
+    priority: u8,
+    number: u16,
+    master: u64,
+    failing: u64,
+    named: u64,
+    channel: u64,
+    length: u64,
+) -> Made
+    ensures { λ r. ⌜ r ≡ shortMade identifier priority number master failing named channel «length» ⌝ }
+{
+    if channel != 0 {
+        return Made::Nothing;
+    }
+    if length != 0 {
+        return Made::Nothing;
+    }
+    let p = Short {
+        priority,
+        number,
+        master,
+        failing,
+        named,
+    };
+    if identifier == 1 {
+        return Made::Packet(Packet::Token(p));
+    }
+    Made::Packet(Packet::Transmit(p))
+}
+
+// The information packet of eight numbers, whose addresses are to be 0.
+fn head_made(
+    priority: u8,
+    number: u16,
+    master: u64,
+    failing: u64,
+    named: u64,
+    channel: u64,
+    length: u64,
+) -> Made
+    ensures { λ r. ⌜ r ≡ headMade priority number master failing named channel «length» ⌝ }
+{
+    if master != 0 {
+        return Made::Nothing;
+    }
+    if failing != 0 {
+        return Made::Nothing;
+    }
+    if named != 0 {
+        return Made::Nothing;
+    }
+    if 65535 < channel {
+        return Made::Nothing;
+    }
+    if 65535 < length {
+        return Made::Nothing;
+    }
+    Made::Packet(Packet::Information(Head {
+        priority,
+        number,
+        channel: channel as u16,
+        length: length as u16,
+    }))
+}
+
+// The packet of eight numbers.
+pub fn made_of(v: &[u64; 8]) -> Made
+    ensures { λ r. ⌜ r ≡ madeOf (now (v .entry)) ⌝ }
+{
+    let identifier = v[0];
+    let priority = v[1];
+    let number = v[2];
+    if identifier < 1 {
+        return Made::Nothing;
+    }
+    if 3 < identifier {
+        return Made::Nothing;
+    }
+    if 255 < priority {
+        return Made::Nothing;
+    }
+    if 65535 < number {
+        return Made::Nothing;
+    }
+    if identifier == 3 {
+        return head_made(priority as u8, number as u16, v[3], v[4], v[5], v[6], v[7]);
+    }
+    short_made(
+        identifier,
+        priority as u8,
+        number as u16,
+        v[3],
+        v[4],
+        v[5],
+        v[6],
+        v[7],
+    )
+}
+
+// The refusal of what is no packet.
+fn refuse_nothing(room: usize) -> u32
+    ensures { λ r. ⌜ r ≡ madeRefusal [] Nothing 0 room ⌝ }
+{
+    if room < Packet::LONGEST {
+        return 9;
+    }
+    12
+}
+
+// Writes a packet, and tells how many octets it has and how many it takes on the wire.
+fn write_told(
+    ring: &[u64],
+    p: Packet,
+    information: &[u8],
+    out: &mut [u8],
+    told: &mut [u64; 2],
+) -> u32
+    ensures { λ r. ⌜ WriteTold (now (ring .entry)) (Of p) (now (information .entry)) (now (out .entry)) (now (told .entry)) r (now (out .exit)) (now (told .exit)) ⌝ }
+{
+    let number = write_packet(ring, p, information, out);
+    if number != 0 {
+        return number;
+    }
+    *told = [p.size() as u64, p.wire_octets() as u64];
+    0
+}
+
+// Writes the packet of eight numbers against a ring.
+#[no_mangle]
+pub extern "C" fn rtep_write(
+    ring: &[u64],
+    packet: &[u64; 8],
+    information: &[u8],
+    out: &mut [u8],
+    told: &mut [u64; 2],
+) -> u32
+    ensures { λ r. ⌜ WriteTold (now (ring .entry)) (madeOf (now (packet .entry))) (now (information .entry)) (now (out .entry)) (now (told .entry)) r (now (out .exit)) (now (told .exit)) ⌝ }
+{
+    match made_of(packet) {
+        Made::Nothing => refuse_nothing(out.len()),
+        Made::Packet(p) => write_told(ring, p, information, out, told),
+    }
+}

@@ -1,0 +1,521 @@
+//! Document 01's ring file and packets, read from the page alone and with no eye to speed.
+//!
+//! A refusal lists everything that is wrong, in the page's order of checks, so that the tests can
+//! count which checks stood alone. The number given back is that of the first.
+
+/// A good ring: R and the addresses in ring order. N is their count.
+#[derive(Debug, Clone, PartialEq, Eq)]
+pub struct Ring {
+    pub retry_limit: u64,
+    pub addresses: Vec<u64>,
+}
+
+/// What can be wrong with a ring file, in the order of the checks.
+#[derive(Debug, Clone, Copy, PartialEq, Eq, PartialOrd, Ord)]
+pub enum RingFault {
+    Short,
+    Form,
+    ZeroBits,
+    OneMember,
+    NoRetry,
+    Length,
+    BadAddress,
+    SeenEarlier,
+}
+
+impl RingFault {
+    pub fn number(self) -> u32 {
+        match self {
+            RingFault::Short => 1,
+            RingFault::Form => 2,
+            RingFault::ZeroBits => 3,
+            RingFault::OneMember => 4,
+            RingFault::NoRetry => 5,
+            RingFault::Length => 1,
+            RingFault::BadAddress => 6,
+            RingFault::SeenEarlier => 7,
+        }
+    }
+}
+
+/// Takes the next `count` bits, most significant first.
+fn bits(file: &[u8], at: &mut usize, count: usize) -> u64 {
+    let mut number = 0;
+    for _ in 0..count {
+        let bit = file[*at / 8] >> (7 - *at % 8) & 1;
+        number = number * 2 + u64::from(bit);
+        *at += 1;
+    }
+    number
+}
+
+/// Reads a ring file, or says all that is wrong with it.
+pub fn read_ring(file: &[u8]) -> Result<Ring, Vec<RingFault>> {
+    if file.len() < 2 {
+        return Err(vec![RingFault::Short]);
+    }
+    let mut at = 0;
+    let form = bits(file, &mut at, 4);
+    let members = bits(file, &mut at, 6) as usize + 1;
+    let retry_limit = bits(file, &mut at, 4);
+    let zero_bits = bits(file, &mut at, 2);
+
+    let mut faults = Vec::new();
+    if form != 1 {
+        faults.push(RingFault::Form);
+    }
+    if zero_bits != 0 {
+        faults.push(RingFault::ZeroBits);
+    }
+    if members == 1 {
+        faults.push(RingFault::OneMember);
+    }
+    if retry_limit == 0 {
+        faults.push(RingFault::NoRetry);
+    }
+    if file.len() != 2 + 6 * members {
+        faults.push(RingFault::Length);
+    }
+    let mut addresses = Vec::new();
+    while addresses.len() < members && at + 48 <= 8 * file.len() {
+        let first_octet = file[at / 8];
+        let address = bits(file, &mut at, 48);
+        if address == 0 || first_octet % 2 == 1 {
+            faults.push(RingFault::BadAddress);
+        }
+        if addresses.contains(&address) {
+            faults.push(RingFault::SeenEarlier);
+        }
+        addresses.push(address);
+    }
+    if faults.is_empty() {
+        Ok(Ring { retry_limit, addresses })
+    } else {
+        Err(faults)
+    }
+}
+
+/// A packet, with the numbers that its kind has.
+#[derive(Debug, Clone, Copy, PartialEq, Eq)]
+pub enum Packet<'a> {
+    Token { priority: u8, number: u16, master: u64, failing: Option<u64>, named: u64 },
+    TransmitToken { priority: u8, number: u16, master: u64, named: u64 },
+    Information { priority: u8, number: u16, channel: u16, information: &'a [u8] },
+}
+
+/// Adds the last `count` octets of a number, big-endian.
+fn put(octets: &mut Vec<u8>, number: u64, count: usize) {
+    for place in (0..count).rev() {
+        octets.push((number >> (8 * place)) as u8);
+    }
+}
+
+/// The big-endian number of `count` octets at `at`.
+fn get(octets: &[u8], at: usize, count: usize) -> u64 {
+    octets[at..at + count].iter().fold(0, |number, octet| number * 256 + u64::from(*octet))
+}
+
+impl<'a> Packet<'a> {
+    /// The packet's octets.
+    pub fn octets(&self) -> Vec<u8> {
+        let mut octets = Vec::with_capacity(1500);
+        match *self {
+            Packet::Token { priority, number, master, failing, named } => {
+                put(&mut octets, 1, 1);
+                put(&mut octets, priority.into(), 1);
+                put(&mut octets, number.into(), 2);
+                put(&mut octets, master, 6);
+                put(&mut octets, failing.unwrap_or(0), 6);
+                put(&mut octets, named, 6);
+            }
+            Packet::TransmitToken { priority, number, master, named } => {
+                put(&mut octets, 2, 1);
+                put(&mut octets, priority.into(), 1);
+                put(&mut octets, number.into(), 2);
+                put(&mut octets, master, 6);
+                put(&mut octets, 0, 6);
+                put(&mut octets, named, 6);
+            }
+            Packet::Information { priority, number, channel, information } => {
+                put(&mut octets, 3, 1);
+                put(&mut octets, priority.into(), 1);
+                put(&mut octets, number.into(), 2);
+                put(&mut octets, channel.into(), 2);
+                put(&mut octets, information.len() as u64, 2);
+                octets.extend_from_slice(information);
+            }
+        }
+        while octets.len() < 46 {
+            octets.push(0);
+        }
+        octets
+    }
+
+    /// Octets on the wire.
+    pub fn wire(&self) -> u64 {
+        match self {
+            Packet::Information { information, .. } => 72.max(34 + information.len() as u64),
+            _ => 72,
+        }
+    }
+
+    /// The eight numbers of the calls: identifier, priority, number, master, failing, named,
+    /// channel, length.
+    pub fn numbers(&self) -> [u64; 8] {
+        match *self {
+            Packet::Token { priority, number, master, failing, named } => {
+                [1, priority.into(), number.into(), master, failing.unwrap_or(0), named, 0, 0]
+            }
+            Packet::TransmitToken { priority, number, master, named } => {
+                [2, priority.into(), number.into(), master, 0, named, 0, 0]
+            }
+            Packet::Information { priority, number, channel, information } => [
+                3,
+                priority.into(),
+                number.into(),
+                0,
+                0,
+                0,
+                channel.into(),
+                information.len() as u64,
+            ],
+        }
+    }
+
+    /// The information; none for a token.
+    pub fn information(&self) -> &'a [u8] {
+        match self {
+            Packet::Information { information, .. } => information,
+            _ => &[],
+        }
+    }
+}
+
+/// An address belongs to the ring if it has 48 bits and is one of the members.
+fn belongs(members: &[u64], address: u64) -> bool {
+    address < 1 << 48 && members.contains(&address)
+}
+
+/// What can be wrong with a packet that is read.
+#[derive(Debug, Clone, Copy, PartialEq, Eq, PartialOrd, Ord)]
+pub enum ReadFault {
+    Size,
+    Identifier,
+    Priority,
+    Master,
+    FailingNotMember,
+    FailingInTransmitToken,
+    Named,
+    Channel,
+    LengthField,
+    Pad,
+    Length,
+}
+
+impl ReadFault {
+    pub fn number(self) -> u32 {
+        match self {
+            ReadFault::Size => 10,
+            ReadFault::Identifier => 11,
+            _ => 12,
+        }
+    }
+}
+
+/// Reads a packet, or says what is wrong with it. Fields are looked at only when the size and the
+/// identifier are right.
+pub fn read<'a>(members: &[u64], packet: &'a [u8]) -> Result<Packet<'a>, Vec<ReadFault>> {
+    let mut faults = Vec::new();
+    if packet.len() < 46 || packet.len() > 1500 {
+        faults.push(ReadFault::Size);
+    }
+    if !packet.is_empty() && !(1..=3).contains(&packet[0]) {
+        faults.push(ReadFault::Identifier);
+    }
+    if !faults.is_empty() {
+        return Err(faults);
+    }
+    let identifier = packet[0];
+    let priority = packet[1];
+    let number = get(packet, 2, 2) as u16;
+    if priority == 0 && identifier != 1 {
+        faults.push(ReadFault::Priority);
+    }
+    let read = if identifier == 3 {
+        let channel = get(packet, 4, 2) as u16;
+        let length = get(packet, 6, 2) as usize;
+        if channel > 7 {
+            faults.push(ReadFault::Channel);
+        }
+        if length > 1492 {
+            faults.push(ReadFault::LengthField);
+        }
+        if 8 + length < 46 && packet[8 + length..46].iter().any(|octet| *octet != 0) {
+            faults.push(ReadFault::Pad);
+        }
+        if packet.len() != 46.max(8 + length) {
+            faults.push(ReadFault::Length);
+        }
+        let information = packet.get(8..8 + length).unwrap_or(&[]);
+        Packet::Information { priority, number, channel, information }
+    } else {
+        let master = get(packet, 4, 6);
+        let failing = get(packet, 10, 6);
+        let named = get(packet, 16, 6);
+        if !belongs(members, master) {
+            faults.push(ReadFault::Master);
+        }
+        if identifier == 1 && failing != 0 && !belongs(members, failing) {
+            faults.push(ReadFault::FailingNotMember);
+        }
+        if identifier == 2 && failing != 0 {
+            faults.push(ReadFault::FailingInTransmitToken);
+        }
+        if !belongs(members, named) {
+            faults.push(ReadFault::Named);
+        }
+        if packet[22..46].iter().any(|octet| *octet != 0) {
+            faults.push(ReadFault::Pad);
+        }
+        if packet.len() != 46 {
+            faults.push(ReadFault::Length);
+        }
+        if identifier == 1 {
+            let failing = if failing == 0 { None } else { Some(failing) };
+            Packet::Token { priority, number, master, failing, named }
+        } else {
+            Packet::TransmitToken { priority, number, master, named }
+        }
+    };
+    if faults.is_empty() {
+        Ok(read)
+    } else {
+        Err(faults)
+    }
+}
+
+/// What can be wrong with a packet that is to be written.
+#[derive(Debug, Clone, Copy, PartialEq, Eq, PartialOrd, Ord)]
+pub enum WriteFault {
+    Room,
+    Identifier,
+    Priority,
+    Number,
+    Master,
+    FailingNotMember,
+    FailingInTransmitToken,
+    Named,
+    Channel,
+    LengthField,
+    Information,
+    MasterInInformation,
+    FailingInInformation,
+    NamedInInformation,
+    ChannelInToken,
+    LengthInToken,
+    InformationInToken,
+}
+
+impl WriteFault {
+    pub fn number(self) -> u32 {
+        match self {
+            WriteFault::Room => 9,
+            _ => 12,
+        }
+    }
+}
+
+/// The packet of eight numbers and its information, fit to write to an out buffer of `out_len`
+/// octets, or what is wrong with it.
+pub fn fit<'a>(
+    members: &[u64],
+    numbers: &[u64; 8],
+    information: &'a [u8],
+    out_len: usize,
+) -> Result<Packet<'a>, Vec<WriteFault>> {
+    let [identifier, priority, number, master, failing, named, channel, length] = *numbers;
+    let mut faults = Vec::new();
+    if out_len < 1500 {
+        faults.push(WriteFault::Room);
+    }
+    if !(1..=3).contains(&identifier) {
+        faults.push(WriteFault::Identifier);
+        return Err(faults);
+    }
+    let lowest_priority = if identifier == 1 { 0 } else { 1 };
+    if priority < lowest_priority || priority > 255 {
+        faults.push(WriteFault::Priority);
+    }
+    if number > 65_535 {
+        faults.push(WriteFault::Number);
+    }
+    if identifier == 3 {
+        if master != 0 {
+            faults.push(WriteFault::MasterInInformation);
+        }
+        if failing != 0 {
+            faults.push(WriteFault::FailingInInformation);
+        }
+        if named != 0 {
+            faults.push(WriteFault::NamedInInformation);
+        }
+        if channel > 7 {
+            faults.push(WriteFault::Channel);
+        }
+        if length > 1492 {
+            faults.push(WriteFault::LengthField);
+        }
+        if information.len() as u64 != length {
+            faults.push(WriteFault::Information);
+        }
+    } else {
+        if !belongs(members, master) {
+            faults.push(WriteFault::Master);
+        }
+        if identifier == 1 && failing != 0 && !belongs(members, failing) {
+            faults.push(WriteFault::FailingNotMember);
+        }
+        if identifier == 2 && failing != 0 {
+            faults.push(WriteFault::FailingInTransmitToken);
+        }
+        if !belongs(members, named) {
+            faults.push(WriteFault::Named);
+        }
+        if channel != 0 {
+            faults.push(WriteFault::ChannelInToken);
+        }
+        if length != 0 {
+            faults.push(WriteFault::LengthInToken);
+        }
+        if !information.is_empty() {
+            faults.push(WriteFault::InformationInToken);
+        }
+    }
+    if !faults.is_empty() {
+        return Err(faults);
+    }
+    let priority = priority as u8;
+    let number = number as u16;
+    Ok(match identifier {
+        1 => {
+            let failing = if failing == 0 { None } else { Some(failing) };
+            Packet::Token { priority, number, master, failing, named }
+        }
+        2 => Packet::TransmitToken { priority, number, master, named },
+        _ => Packet::Information { priority, number, channel: channel as u16, information },
+    })
+}
+
+/// The octets of a ring file with these values, right or wrong.
+pub fn ring_file(
+    form: u64,
+    members_less_one: u64,
+    retry_limit: u64,
+    zero_bits: u64,
+    addresses: &[u64],
+) -> Vec<u8> {
+    let heading = form << 12 | members_less_one << 6 | retry_limit << 2 | zero_bits;
+    let mut file = Vec::with_capacity(2 + 6 * addresses.len());
+    put(&mut file, heading, 2);
+    for address in addresses {
+        put(&mut file, *address, 6);
+    }
+    file
+}
+
+#[cfg(test)]
+mod tests {
+    use super::*;
+
+    /// N addresses 2, 4, 6 and so on.
+    fn addresses(members: u64) -> Vec<u64> {
+        (1..=members).map(|place| 2 * place).collect()
+    }
+
+    #[test]
+    fn the_page_ring_files() {
+        let small = ring_file(1, 2, 2, 0, &addresses(3));
+        assert_eq!((&small[..2], small.len()), (&[0x10, 0x88][..], 20));
+        assert_eq!(read_ring(&small), Ok(Ring { retry_limit: 2, addresses: addresses(3) }));
+
+        let large = ring_file(1, 63, 15, 0, &addresses(64));
+        assert_eq!((&large[..2], large.len()), (&[0x1F, 0xFC][..], 386));
+        assert_eq!(read_ring(&large), Ok(Ring { retry_limit: 15, addresses: addresses(64) }));
+    }
+
+    #[test]
+    fn ring_checks_in_the_page_order() {
+        use RingFault::*;
+        assert_eq!(read_ring(&[0x10]), Err(vec![Short]));
+        assert_eq!(read_ring(&[0x00, 0x03]), Err(vec![Form, ZeroBits, OneMember, NoRetry, Length]));
+        let group = 1 << 40;
+        let file = ring_file(1, 3, 1, 0, &[2, 2, 0, group]);
+        assert_eq!(read_ring(&file), Err(vec![SeenEarlier, BadAddress, BadAddress]));
+        let file = ring_file(1, 2, 1, 0, &[2, 4, 4]);
+        assert_eq!(read_ring(&file[..19]), Err(vec![Length]));
+        assert_eq!(read_ring(&file), Err(vec![SeenEarlier]));
+    }
+
+    #[test]
+    fn the_page_wire_sizes() {
+        let octets = [0; 1492];
+        let wire = |n: usize| {
+            let information = &octets[..n];
+            Packet::Information { priority: 1, number: 0, channel: 0, information }.wire()
+        };
+        assert_eq!([0, 38, 39, 1492].map(wire), [72, 72, 73, 1526]);
+        let token = Packet::Token { priority: 0, number: 0, master: 2, failing: None, named: 2 };
+        assert_eq!((token.wire(), token.octets().len()), (72, 46));
+    }
+
+    #[test]
+    fn a_token_octet_by_octet() {
+        let members = [0x0203_0405_0607, 0x1213_1415_1617, 0x2223_2425_2627];
+        let token = Packet::Token {
+            priority: 0xA1,
+            number: 0xB1B2,
+            master: members[0],
+            failing: Some(members[1]),
+            named: members[2],
+        };
+        let mut octets = vec![1, 0xA1, 0xB1, 0xB2, 2, 3, 4, 5, 6, 7];
+        octets.extend([0x12, 0x13, 0x14, 0x15, 0x16, 0x17]);
+        octets.extend([0x22, 0x23, 0x24, 0x25, 0x26, 0x27]);
+        octets.extend([0; 24]);
+        assert_eq!(token.octets(), octets);
+        assert_eq!(read(&members, &octets), Ok(token));
+        assert_eq!(fit(&members, &token.numbers(), &[], 1500), Ok(token));
+        assert_eq!(read(&members[..2], &octets), Err(vec![ReadFault::Named]));
+        octets[0] = 2;
+        assert_eq!(read(&members, &octets), Err(vec![ReadFault::FailingInTransmitToken]));
+        octets[0] = 4;
+        assert_eq!(read(&members, &octets), Err(vec![ReadFault::Identifier]));
+        assert_eq!(read(&members, &octets[..45]).unwrap_err()[0].number(), 10);
+    }
+
+    #[test]
+    fn information_octet_by_octet() {
+        let information = Packet::Information {
+            priority: 9,
+            number: 0x0102,
+            channel: 7,
+            information: &[0xD0, 0xD1, 0xD2],
+        };
+        let mut octets = vec![3, 9, 1, 2, 0, 7, 0, 3, 0xD0, 0xD1, 0xD2];
+        octets.extend([0; 35]);
+        assert_eq!(information.octets(), octets);
+        assert_eq!(read(&[], &octets), Ok(information));
+        octets[7] = 2;
+        assert_eq!(read(&[], &octets), Err(vec![ReadFault::Pad]));
+        octets[7] = 39;
+        assert_eq!(read(&[], &octets), Err(vec![ReadFault::Length]));
+    }
+
+    #[test]
+    fn writing_refuses_nine_first() {
+        use WriteFault::*;
+        let numbers = [1, 256, 0, 1 << 48, 0, 2, 0, 0];
+        assert_eq!(fit(&[1 << 48, 2], &numbers, &[], 1500), Err(vec![Priority, Master]));
+        assert_eq!(fit(&[1 << 48, 2], &numbers, &[], 1499), Err(vec![Room, Priority, Master]));
+    }
+}
