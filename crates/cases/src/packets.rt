@@ -116,59 +116,64 @@ fn read(text: &[u8], packet: &[u8]) {
     show::answer(text, number_of(codec::reading::read_packet(&RING, packet)));
 }
 
+fn read_short(text: &[u8], packet: &[u8; 46]) {
+    read(text, packet);
+}
+
+// The token with two octets changed.
+fn odd_token(text: &[u8], i: usize, v: u8, j: usize, w: u8) {
+    let mut p = TOKEN;
+    if i < 46 {
+        p[i] = v;
+    }
+    if j < 46 {
+        p[j] = w;
+    }
+    read_short(text, &p);
+}
+
+// The notice with one octet changed.
+fn odd_notice(text: &[u8], i: usize, v: u8) {
+    let mut p = NOTICE;
+    if i < 46 {
+        p[i] = v;
+    }
+    read_short(text, &p);
+}
+
 fn lengths() {
     let token = TOKEN;
+    read(b"token", &token);
     read(b"45 octets", &token[..45]);
     let long = [3u8; 1501];
     read(b"1,501 octets", &long);
-    let mut kind = TOKEN;
-    kind[0] = 0;
-    read(b"identifier 0", &kind);
-    kind[0] = 4;
-    read(b"identifier 4", &kind);
 }
 
 fn tokens() {
-    let mut grant = TOKEN;
-    grant[0] = 2;
-    read(b"transmit token", &grant);
-    grant[1] = 0;
-    read(b"transmit token of priority 0", &grant);
-    let mut calm = TOKEN;
-    calm[1] = 0;
-    read(b"token of priority 0", &calm);
-    let mut fail = TOKEN;
-    fail[15] = 6;
-    read(b"token with the failing station 6", &fail);
-    fail[15] = 8;
-    read(b"token with a failing station that is no member", &fail);
-    let mut told = TOKEN;
-    told[0] = 2;
-    told[15] = 6;
-    read(b"transmit token with a failing station", &told);
-    let mut stranger = TOKEN;
-    stranger[9] = 8;
-    read(b"master that is no member", &stranger);
-    let mut pad = TOKEN;
-    pad[45] = 1;
-    read(b"last pad octet not zero", &pad);
+    odd_token(b"identifier 0", 0, 0, 1, 5);
+    odd_token(b"identifier 4", 0, 4, 1, 5);
+    odd_token(b"transmit token", 0, 2, 1, 5);
+    odd_token(b"transmit token of priority 0", 0, 2, 1, 0);
+    odd_token(b"token of priority 0", 0, 1, 1, 0);
+    odd_token(b"token with the failing station 6", 0, 1, 15, 6);
+    odd_token(
+        b"token with a failing station that is no member",
+        0,
+        1,
+        15,
+        8,
+    );
+    odd_token(b"transmit token with a failing station", 0, 2, 15, 6);
+    odd_token(b"master that is no member", 0, 1, 9, 8);
+    odd_token(b"last pad octet not zero", 0, 1, 45, 1);
 }
 
 fn notices() {
-    let notice = NOTICE;
-    read(b"information of 3 octets", &notice);
-    let mut none = NOTICE;
-    none[1] = 0;
-    read(b"information of priority 0", &none);
-    let mut channel = NOTICE;
-    channel[5] = 8;
-    read(b"channel 8", &channel);
-    let mut short = NOTICE;
-    short[7] = 2;
-    read(b"an octet past the information not zero", &short);
-    let mut long = NOTICE;
-    long[7] = 39;
-    read(b"39 octets of information in 46", &long);
+    odd_notice(b"information of 3 octets", 0, 3);
+    odd_notice(b"information of priority 0", 1, 0);
+    odd_notice(b"channel 8", 5, 8);
+    odd_notice(b"an octet past the information not zero", 7, 2);
+    odd_notice(b"39 octets of information in 46", 7, 39);
     let mut most = [0u8; 1500];
     most[0] = 3;
     most[1] = 1;
@@ -181,8 +186,6 @@ fn notices() {
 
 pub fn all_read() {
     show::title(b"packets read");
-    let token = TOKEN;
-    read(b"token", &token);
     lengths();
     tokens();
     notices();

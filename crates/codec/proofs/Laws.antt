@@ -1,6 +1,10 @@
 -- Laws of the codec's definitions, one file for each.
 pub mod Order
 pub mod Octets
+pub mod Zeros
 pub mod Bits
+pub mod Position
 pub mod Ring
 pub mod Packet
+pub mod Looked
+pub mod Written

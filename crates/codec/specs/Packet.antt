@@ -142,6 +142,11 @@ readTests ring s p = fieldTests ring p ++ restTests s p
 abbrev pub writeTests : List ℕ → Packet → ℕ → List (Bool × Looked)
 writeTests ring p info = fieldTests ring p ++ lengthTests info (informationLength p) (lengthFrom p)
 
+-- what more looking gives after a first look: the first bad place stays
+abbrev pub thenLooked : Looked → Looked → Looked
+thenLooked Sound more = more
+thenLooked (Bad from) more = Bad from
+
 -- this paper's answer for each case: whether the fields call for 12
 abbrev pub isBad : Looked → Bool
 isBad Sound = false

@@ -5,12 +5,12 @@ ghost use lib.ListN.{length};
 ghost use Rattle.codec.specs.Order.{firstOf};
 ghost use Rattle.codec.specs.declared.fields.Looked.the-variants.{Sound};
 ghost use Rattle.codec.specs.declared.packet.Packet.the-variants.{Token, Transmit, Information};
-ghost use Rattle.codec.specs.Packet.{belongs, failingBad, fieldTests, padTests, lengthTests, restTests, readTests, writeTests};
+ghost use Rattle.codec.specs.Packet.{belongs, failingBad, fieldTests, padTests, lengthTests, restTests, readTests, thenLooked};
 use crate::octets::nonzero;
 use crate::packet::Head;
 use crate::packet::Packet;
 use crate::packet::Short;
-use crate::ring::position;
+use crate::ring::is_member;
 
 // What looking at a packet's fields in their order finds: no bad one, or the place of the first.
 pub enum Looked {
@@ -23,7 +23,7 @@ pub fn belongs(ring: &[u64], address: u64) -> bool
     ensures { λ r. ⌜ r ≡ belongs (now (ring .entry)) address ⌝ }
 {
     if address < 281474976710656 {
-        return position(ring, address) < ring.len();
+        return is_member(ring, address);
     }
     false
 }
@@ -86,17 +86,6 @@ pub fn look_information(ring: &[u64], p: Head) -> Looked
     Looked::Sound
 }
 
-// The fields that a packet holds, in wire order.
-pub fn look_fields(ring: &[u64], p: Packet) -> Looked
-    ensures { λ r. ⌜ r ≡ firstOf Sound (fieldTests (now (ring .entry)) p) ⌝ }
-{
-    match p {
-        Packet::Token(q) => look_token(ring, q),
-        Packet::Transmit(q) => look_transmit(ring, q),
-        Packet::Information(q) => look_information(ring, q),
-    }
-}
-
 // The zeros up to the length of a short packet.
 pub fn look_pad(s: &[u8], from: usize) -> Looked
     requires { ⌜ 46 ≤ length (now s) ⌝ }
@@ -122,6 +111,16 @@ pub fn look_length(is: usize, called: usize, from: usize) -> Looked
     Looked::Bad(from)
 }
 
+// A length, after what the fields gave.
+pub fn then_length(fields: Looked, is: usize, called: usize, from: usize) -> Looked
+    ensures { λ r. ⌜ r ≡ thenLooked fields (firstOf Sound (lengthTests is called from)) ⌝ }
+{
+    match fields {
+        Looked::Bad(at) => Looked::Bad(at),
+        Looked::Sound => look_length(is, called, from),
+    }
+}
+
 // What follows the fields of a packet that is read: its zeros, then its length.
 pub fn look_rest(s: &[u8], p: Packet) -> Looked
     requires { ⌜ 46 ≤ length (now s) ⌝ }
@@ -133,23 +132,25 @@ pub fn look_rest(s: &[u8], p: Packet) -> Looked
     }
 }
 
-// Everything about a packet that is read.
-pub fn look_read(ring: &[u64], s: &[u8], p: Packet) -> Looked
+// The rest of a packet that is read, after what its fields gave.
+fn then_rest(fields: Looked, s: &[u8], p: Packet) -> Looked
     requires { ⌜ 46 ≤ length (now s) ⌝ }
-    ensures { λ r. ⌜ r ≡ firstOf Sound (readTests (now (ring .entry)) (now (s .entry)) p) ⌝ }
+    ensures { λ r. ⌜ r ≡ thenLooked fields (firstOf Sound (restTests (now (s .entry)) p)) ⌝ }
 {
-    match look_fields(ring, p) {
+    match fields {
         Looked::Bad(at) => Looked::Bad(at),
         Looked::Sound => look_rest(s, p),
     }
 }
 
-// Everything about a packet that is to be written, with so many octets of information.
-pub fn look_write(ring: &[u64], p: Packet, information: usize) -> Looked
-    ensures { λ r. ⌜ r ≡ firstOf Sound (writeTests (now (ring .entry)) p information) ⌝ }
+// Everything about a packet that is read. The kind is asked for once, so that the compiler keeps the kinds apart from here on.
+pub fn look_read(ring: &[u64], s: &[u8], p: Packet) -> Looked
+    requires { ⌜ 46 ≤ length (now s) ⌝ }
+    ensures { λ r. ⌜ r ≡ firstOf Sound (readTests (now (ring .entry)) (now (s .entry)) p) ⌝ }
 {
-    match look_fields(ring, p) {
-        Looked::Bad(at) => Looked::Bad(at),
-        Looked::Sound => look_length(information, p.information_length(), p.length_from()),
+    match p {
+        Packet::Token(q) => then_rest(look_token(ring, q), s, p),
+        Packet::Transmit(q) => then_rest(look_transmit(ring, q), s, p),
+        Packet::Information(q) => then_rest(look_information(ring, q), s, p),
     }
 }

@@ -32,8 +32,24 @@ pub fn get(s: &[u8], at: usize, width: usize) -> u64
     value
 }
 
-// Lays octets over a buffer.
+// Lays octets over a buffer. It goes through an array of its own, so that the compiler sees places
+// that do not overlap: of both loops and the array it makes one move of memory.
 pub fn copy(out: &mut [u8], at: usize, src: &[u8])
+    requires { ⌜ at + length (now src) ≤ length (now out) ⌝ }
+    ensures { λ _. ⌜ now (out .exit) ≡ laid (now (out .entry)) at (now (src .entry)) ⌝ }
+{
+    let n = src.len();
+    if 1492 < n {
+        copy_one_by_one(out, at, src);
+    } else {
+        let mut block = [0u8; 1492];
+        copy_one_by_one(&mut block, 0, src);
+        copy_one_by_one(out, at, &block[..n]);
+    }
+}
+
+// Lays octets over a buffer, an octet at a time.
+pub fn copy_one_by_one(out: &mut [u8], at: usize, src: &[u8])
     requires { ⌜ at + length (now src) ≤ length (now out) ⌝ }
     ensures { λ _. ⌜ now (out .exit) ≡ laid (now (out .entry)) at (now (src .entry)) ⌝ }
 {
@@ -58,6 +74,30 @@ pub fn clear(out: &mut [u8], at: usize, count: usize)
 
 // Where the first octet stands that is not zero, from a place on and before an end; the end where each is zero.
 pub fn nonzero(s: &[u8], from: usize, end: usize) -> usize
+    requires { ⌜ (from ≤ end) × (end ≤ length (now s)) ⌝ }
+    ensures { λ r. ⌜ r ≡ firstNonzero (now (s .entry)) from (end - from) ⌝ }
+{
+    let at = zeros_passed(s, from, end);
+    nonzero_one_by_one(s, at, end)
+}
+
+// A place before which each octet is zero. It goes by eight octets at a time, which take one load.
+pub fn zeros_passed(s: &[u8], from: usize, end: usize) -> usize
+    requires { ⌜ (from ≤ end) × (end ≤ length (now s)) ⌝ }
+    ensures { λ r. ⌜ (r ≤ end) × (firstNonzero (now (s .entry)) from (end - from) ≡ firstNonzero (now (s .entry)) r (end - r)) ⌝ }
+{
+    let mut i = from;
+    while 7 < end - i {
+        if get(s, i, 8) != 0 {
+            break;
+        }
+        i += 8;
+    }
+    i
+}
+
+// As nonzero, an octet at a time.
+pub fn nonzero_one_by_one(s: &[u8], from: usize, end: usize) -> usize
     requires { ⌜ (from ≤ end) × (end ≤ length (now s)) ⌝ }
     ensures { λ r. ⌜ r ≡ firstNonzero (now (s .entry)) from (end - from) ⌝ }
 {

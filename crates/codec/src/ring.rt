@@ -1,9 +1,10 @@
 // The ring file, and the good ring that it gives.
 ghost use mathlib.Core.Path.{_≡_};
+ghost use mathlib.Core.Bool.{true};
 ghost use mathlib.Core.List.{_++_};
 ghost use Prim.Native.Nat.{_+_, _*_, _≤_, _<_, _^_};
 ghost use lib.ListN.{length, take, drop, getD};
-ghost use Rattle.codec.specs.Ring.{badAddress, position, headRefusal, addressesOf, addressRefusal, addressesRefusal, readRing, noRing, filled};
+ghost use Rattle.codec.specs.Ring.{badAddress, position, isMember, headRefusal, addressesOf, addressRefusal, addressesRefusal, readRing, noRing, filled};
 use crate::bits::bits;
 
 // A ring by value: how many members, the retry limit, the members' addresses in ring order and then zeros.
@@ -44,6 +45,38 @@ pub fn position(members: &[u64], address: u64) -> usize
     i
 }
 
+// Whether a member has an address.
+pub fn is_member(members: &[u64], address: u64) -> bool
+    ensures { λ r. ⌜ r ≡ isMember (now (members .entry)) address ⌝ }
+{
+    let passed = pairs_passed(members, address);
+    if 1 < members.len() - passed {
+        return true;
+    }
+    if passed < members.len() {
+        return members[passed] == address;
+    }
+    false
+}
+
+// How many members stand before the first pair with the address, or before an odd last one. It goes
+// by pairs, which halves the tests of the end.
+pub fn pairs_passed(members: &[u64], address: u64) -> usize
+    ensures { λ r. ⌜ (r ≤ length (now (members .entry))) × (position (now (members .entry)) address ≡ r + position (drop r (now (members .entry))) address) × (r + 1 < length (now (members .entry)) → isMember (now (members .entry)) address ≡ true) ⌝ }
+{
+    let mut i = 0;
+    while 1 < members.len() - i {
+        if members[i] == address {
+            break;
+        }
+        if members[i + 1] == address {
+            break;
+        }
+        i += 2;
+    }
+    i
+}
+
 pub fn bad_address(address: u64) -> bool
     ensures { λ r. ⌜ r ≡ badAddress address ⌝ }
 {
@@ -62,7 +95,7 @@ pub fn address_refusal(members: &[u64], i: usize) -> u32
     if bad_address(address) {
         return 6;
     }
-    if position(&members[..i], address) < i {
+    if is_member(&members[..i], address) {
         return 7;
     }
     0

@@ -3,9 +3,13 @@ ghost use mathlib.Core.Path.{_≡_};
 ghost use Prim.Native.Nat.{_+_, _-_, _≤_};
 ghost use lib.ListN.{length};
 ghost use Rattle.codec.specs.Octets.{laid};
-ghost use Rattle.codec.specs.Packet.{startOctets, addressesOctets, shortOctets, headOctets, informationOctets, packetOctets, writeRefusal, Written};
+ghost use Rattle.codec.specs.declared.packet.Packet.the-variants.{Token, Transmit, Information};
+ghost use Rattle.codec.specs.Packet.{startOctets, addressesOctets, shortOctets, headOctets, informationOctets, Written};
 use crate::fields::Looked;
-use crate::fields::look_write;
+use crate::fields::look_information;
+use crate::fields::look_token;
+use crate::fields::look_transmit;
+use crate::fields::then_length;
 use crate::octets::clear;
 use crate::octets::copy;
 use crate::octets::put;
@@ -73,36 +77,61 @@ pub fn lay_information(out: &mut [u8], h: Head, information: &[u8])
     clear(out, from, pad(from));
 }
 
-pub fn lay(out: &mut [u8], p: Packet, information: &[u8])
-    requires { ⌜ (46 ≤ length (now out)) × (8 + length (now information) ≤ length (now out)) ⌝ }
-    ensures { λ _. ⌜ now (out .exit) ≡ laid (now (out .entry)) 0 (packetOctets p (now (information .entry))) ⌝ }
-{
-    match p {
-        Packet::Token(q) => lay_short(out, 1, q),
-        Packet::Transmit(q) => lay_short(out, 2, q),
-        Packet::Information(h) => lay_information(out, h, information),
-    }
-}
-
-pub fn write_refusal(ring: &[u64], p: Packet, information: usize, room: usize) -> u32
-    ensures { λ r. ⌜ r ≡ writeRefusal (now (ring .entry)) p information room ⌝ }
-{
-    if room < Packet::LONGEST {
-        return 9;
-    }
-    match look_write(ring, p, information) {
-        Looked::Sound => 0,
-        Looked::Bad(_) => 12,
-    }
-}
-
 pub fn write_packet(ring: &[u64], p: Packet, information: &[u8], out: &mut [u8]) -> u32
     ensures { λ r. ⌜ Written (now (ring .entry)) p (now (information .entry)) (now (out .entry)) r (now (out .exit)) ⌝ }
 {
-    let number = write_refusal(ring, p, information.len(), out.len());
-    if number != 0 {
-        return number;
+    if out.len() < Packet::LONGEST {
+        return 9;
     }
-    lay(out, p, information);
-    0
+    match p {
+        Packet::Token(q) => write_token(ring, q, information, out),
+        Packet::Transmit(q) => write_transmit(ring, q, information, out),
+        Packet::Information(h) => write_information(ring, h, information, out),
+    }
+}
+
+// Each kind of packet, where there is room: apart, so that the kind is asked for once.
+fn write_token(ring: &[u64], q: Short, information: &[u8], out: &mut [u8]) -> u32
+    requires { ⌜ 1500 ≤ length (now out) ⌝ }
+    ensures { λ r. ⌜ Written (now (ring .entry)) (Token q) (now (information .entry)) (now (out .entry)) r (now (out .exit)) ⌝ }
+{
+    match then_length(look_token(ring, q), information.len(), 0, 0) {
+        Looked::Bad(_) => 12,
+        Looked::Sound => {
+            lay_short(out, 1, q);
+            0
+        }
+    }
+}
+
+fn write_transmit(ring: &[u64], q: Short, information: &[u8], out: &mut [u8]) -> u32
+    requires { ⌜ 1500 ≤ length (now out) ⌝ }
+    ensures { λ r. ⌜ Written (now (ring .entry)) (Transmit q) (now (information .entry)) (now (out .entry)) r (now (out .exit)) ⌝ }
+{
+    match then_length(look_transmit(ring, q), information.len(), 0, 0) {
+        Looked::Bad(_) => 12,
+        Looked::Sound => {
+            lay_short(out, 2, q);
+            0
+        }
+    }
+}
+
+fn write_information(ring: &[u64], h: Head, information: &[u8], out: &mut [u8]) -> u32
+    requires { ⌜ 1500 ≤ length (now out) ⌝ }
+    ensures { λ r. ⌜ Written (now (ring .entry)) (Information h) (now (information .entry)) (now (out .entry)) r (now (out .exit)) ⌝ }
+{
+    let called = h.length as usize;
+    match then_length(
+        look_information(ring, h),
+        information.len(),
+        called,
+        Packet::LENGTH,
+    ) {
+        Looked::Bad(_) => 12,
+        Looked::Sound => {
+            lay_information(out, h, information);
+            0
+        }
+    }
 }

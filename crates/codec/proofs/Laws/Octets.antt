@@ -155,3 +155,7 @@ laid-three l l₁ l₂ l₃ x y z at b c eb ec h p q r =
     let e : at + length (x ++ y) ≡ c = ap (λ (n : ℕ). at + n) (length-append x y) ∙ omega arith in
     then-laid l l₂ l₃ (x ++ y) z at c e h (then-laid l l₁ l₂ x y at b eb (omega arith) p q) r
     ∙ ap (laid l at) (append-assoc x y z)
+
+-- the start of a list that x is laid over
+pub laid-start : (l l₁ x : List ℕ) → l₁ ≡ laid l 0 x → take (length x) l₁ ≡ x
+laid-start l l₁ x e = ap (take (length x)) e ∙ take-at x (drop (0 + length x) l) (length x) refl

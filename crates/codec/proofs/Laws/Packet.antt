@@ -71,17 +71,6 @@ pub sound-of : (l : Looked) → isBad l ≡ false → l ≡ Sound
 sound-of Sound e = refl
 sound-of (Bad k) e = absurd (false≢true (sym e))
 
--- what an answer of 0 says
-pub record Writable (ring : List ℕ) (p : Packet) (n room : ℕ) : Type 0 where
-  pub roomy : 1500 ≤ room
-  pub fit : firstOf Sound (writeTests ring p n) ≡ Sound
-
-pub writable : (ring : List ℕ) (p : Packet) (n room : ℕ) → writeRefusal ring p n room ≡ 0 → Writable ring p n room
-unfolding writeRefusal
-writable ring p n room e =
-    let h = none-holds 0 ((ltb room 1500, 9) ∷ (isBad (firstOf Sound (writeTests ring p n)), 12) ∷ []) ((λ z. omega arith), ((λ z. omega arith), tt)) e in
-    record { roomy = ltb-false _ _ (h .0); fit = sound-of _ (h .1 .0) }
-
 pub write-apart : (ring : List ℕ) (p : Packet) (n : ℕ) → Apart Sound (writeTests ring p n)
 write-apart ring p n = apart-append Sound (fieldTests ring p) (lengthTests n (informationLength p) (lengthFrom p)) (fields-apart ring p) (bad-not-sound (lengthFrom p), tt)
 

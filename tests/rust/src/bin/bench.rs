@@ -1,7 +1,13 @@
 //! Times the proved codec beside a plain Rust one. Not a test: it refuses no time.
 //!
-//! Both sides are called through the same C boundary with the same checks. They take turns in
-//! many short rounds, and the best time per call of each side counts.
+//! The yardstick is `plain` below: the codec as one writes it in Rust by hand, with slices, pattern
+//! matching and the standard library's own `contains`, `copy_from_slice`, `fill`, `from_be_bytes`
+//! and, for the pad of every kind of packet, `iter().all(|octet| *octet == 0)`. It makes the same
+//! checks and tells the same numbers. Both sides are compiled for the same processor (the target's
+//! baseline) and stand behind exactly one call that is not inlined: `rtep::read` and its likes are
+//! `#[inline]` and only call the archive's function, and each `plain_` function is
+//! `#[inline(never)]`. Both get the same inputs through the same C boundary. They take turns in many
+//! short rounds, and the best time per call of each side counts.
 
 use rtep::model::{self, Packet};
 use rtep::random::Random;
@@ -87,10 +93,7 @@ mod plain {
                 let master = address(packet[4..10].try_into().unwrap());
                 let failing = address(packet[10..16].try_into().unwrap());
                 let named = address(packet[16..22].try_into().unwrap());
-                if !members.contains(&master)
-                    || !members.contains(&named)
-                    || packet[22..] != [0; 24]
-                {
+                if !members.contains(&master) || !members.contains(&named) || !zero(&packet[22..]) {
                     return Err(12);
                 }
                 if identifier == 1 {

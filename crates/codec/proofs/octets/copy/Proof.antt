@@ -1,69 +1,59 @@
--- `octets::copy` meets its contract. The loop's invariant: the octets passed are laid over the buffer.
+-- `octets::copy` meets its contract: the octets go through the start of the array.
 use mathlib.Core.Path.{_≡_, refl, sym, ap, _∙_}
-use Prim.Native.Nat.{ℕ, _+_, _-_, _<_, _≤_}
 use native.Mathlib.Omega.{arith}
-use lib.ListN.{length, take, length-set}
-use lib.Seq.{take-length}
+use lib.ListN.{length, take}
+use borrow.Author.Needs.{needs}
 use Rattle.codec.specs.Octets.{laid}
-use Rattle.codec.proofs.Laws.Octets.{laid-none, laid-more}
+use Rattle.codec.proofs.Laws.Octets.{laid-start}
 use Rattle.codec.proofs.octets.copy.Statement.{statement}
 use Rattle.codec.proofs.octets.copy.Tie as tie
 
-abbrev Inv-loop : tie.InvT-loop
-Inv-loop out₀ at src i₀ out i = (i ≤ length src) × (length out ≡ length out₀) × (out ≡ laid out₀ at (take i src))
+copy-one-by-one-requires : tie.Need-copy-one-by-one-requires
+copy-one-by-one-requires c κs = search needs
 
-abbrev μ-loop : tie.MeasureT-loop
-μ-loop out₀ at src i₀ out i = length src - i
+slice-aggregate-copy-one-by-one : tie.Need-slice-aggregate-copy-one-by-one
+slice-aggregate-copy-one-by-one c = search needs
 
-loop-holds : tie.Need-loop-holds Inv-loop μ-loop
-loop-holds c = (omega arith, refl, sym (laid-none (c .args .out .now) (c .args .at)))
+copy-one-by-one-requires-2 : tie.Need-copy-one-by-one-requires-2
+copy-one-by-one-requires-2 c κs = search needs
 
-shared-slice-read-out : tie.Need-shared-slice-read-out Inv-loop μ-loop
-shared-slice-read-out c = omega arith
+array-share-prefix-block : tie.Need-array-share-prefix-block
+array-share-prefix-block c = search needs
 
-add-out : tie.Need-add-out Inv-loop μ-loop
-add-out c = omega arith
+slice-aggregate-copy-one-by-one-2 : tie.Need-slice-aggregate-copy-one-by-one-2
+slice-aggregate-copy-one-by-one-2 c = sym (ap length (laid-start _ _ (c .before .before .before .before .before .before .before .before .args .src .now) (c .before .before .before .copy-one-by-one2 .ensures)))
 
-slice-write-out : tie.Need-slice-write-out Inv-loop μ-loop
-slice-write-out c = omega arith
+copy-one-by-one-requires-3 : tie.Need-copy-one-by-one-requires-3
+copy-one-by-one-requires-3 c κs =
+    let n = length (c .before .before .before .before .before .before .before .before .args .src .now) in
+    let e : length (take n (c .before .before .before .copy-one-by-one2 .last .0)) ≡ n = ap length (laid-start _ _ (c .before .before .before .before .before .before .before .before .args .src .now) (c .before .before .before .copy-one-by-one2 .ensures)) in
+    omega (arith, e, c .before .before .before .before .before .before .before .before .pre)
 
-add-i : tie.Need-add-i Inv-loop μ-loop
-add-i c = omega arith
+same-length : tie.Need-same-length
+same-length c = search needs
 
-loop-less : tie.Need-loop-less Inv-loop μ-loop
-loop-less c = omega arith
+returns : tie.Need-returns
+returns c = search needs
 
-loop-again : tie.Need-loop-again Inv-loop μ-loop
-loop-again c =
-    let l = c .before .before .loop in
-    let a = c .before .before .before .args in (
-      omega arith,
-      simp length-set (l .inv .1),
-      laid-more (a .out .now) (l .out) (a .src .now) (a .at) (l .i) (c .before .loop-test .taken) (omega arith) (l .inv .2),
-    )
+same-length-2 : tie.Need-same-length-2
+same-length-2 c = search needs
 
-same-length : tie.Need-same-length Inv-loop μ-loop
-same-length c = c .before .loop .inv .1
-
-returns : tie.Need-returns Inv-loop μ-loop
-returns c =
-    let l = c .before .loop in
-    let a = c .before .before .args in
-    let e : l .i ≡ length (a .src .now) = omega arith in
-    l .inv .2 ∙ rw (e, take-length (a .src .now))
+returns-2 : tie.Need-returns-2
+returns-2 c =
+    let a = c .before .before .before .before .before .before .before .before .before .before .before .args in
+    c .before .before .copy-one-by-one3 .ensures ∙ ap (laid (a .out .now) (a .at)) (laid-start _ _ (a .src .now) (c .before .before .before .before .before .before .copy-one-by-one2 .ensures))
 
 pub copy-spec : {M : Type 1} → statement M
 copy-spec =
     tie.close
     (tie.spec
-    Inv-loop
-    μ-loop
-    loop-holds
-    shared-slice-read-out
-    add-out
-    slice-write-out
-    add-i
-    loop-less
-    loop-again
+    copy-one-by-one-requires
+    slice-aggregate-copy-one-by-one
+    copy-one-by-one-requires-2
+    array-share-prefix-block
+    slice-aggregate-copy-one-by-one-2
+    copy-one-by-one-requires-3
     same-length
-    returns)
+    returns
+    same-length-2
+    returns-2)

@@ -1,14 +1,11 @@
 -- `ring::position` meets its contract. The loop's invariant: the position is as many as were passed, and then that in what is left.
 use mathlib.Core.Path.{_≡_, refl, sym, ap, _∙_}
-use mathlib.Core.List.{List}
-use Prim.Native.Nat.{ℕ, suc, _+_, _-_, _<_, _≤_}
-use native.Mathlib.Nat.{zero-add, add-zero, add-suc}
-use native.Mathlib.Numerals.{add-one}
+use Prim.Native.Nat.{ℕ, _+_, _-_, _<_, _≤_}
+use native.Mathlib.Nat.{zero-add}
 use native.Mathlib.Omega.{arith}
-use borrow.Author.Tests.{eq-eqb, ne-eqb}
-use lib.ListN.{length, drop, getD, drop-of-length-le}
-use lib.Seq.{drop-cons}
+use lib.ListN.{length, drop}
 use Rattle.codec.specs.Ring.{position}
+use Rattle.codec.proofs.Laws.Position.{position-here, position-further, position-none}
 use Rattle.codec.proofs.ring.position.Statement.{statement}
 use Rattle.codec.proofs.ring.position.Tie as tie
 
@@ -17,19 +14,6 @@ Inv-loop members address i₀ i = (i ≤ length members) × (position members ad
 
 abbrev μ-loop : tie.MeasureT-loop
 μ-loop members address i₀ i = length members - i
-
-module _ (ms : List ℕ) (a i : ℕ) (more : i < length ms) where
-  here : getD ms i 0 ≡ a → i + position (drop i ms) a ≡ i
-  unfolding position
-  here e = rw (drop-cons ms i 0 more, eq-eqb (getD ms i 0) a e) (add-zero i)
-
-  further : (getD ms i 0 ≡ a → ⊥) → i + position (drop i ms) a ≡ i + 1 + position (drop (i + 1) ms) a
-  unfolding position
-  further n = rw (drop-cons ms i 0 more, ne-eqb (getD ms i 0) a n, add-one i) (omega arith)
-
-none : (ms : List ℕ) (a i : ℕ) → length ms ≤ i → i + position (drop i ms) a ≡ i
-unfolding position
-none ms a i h = rw (drop-of-length-le ms h) (add-zero i)
 
 loop-holds : tie.Need-loop-holds Inv-loop μ-loop
 loop-holds c = (omega arith, sym (zero-add (position (c .args .members .now) (c .args .address))))
@@ -50,19 +34,19 @@ loop-again : tie.Need-loop-again Inv-loop μ-loop
 loop-again c =
     let b = c .before .before in
     let a = b .before .before .args in
-    (omega arith, b .before .loop .inv .1 ∙ further (a .members .now) (a .address) (b .before .loop .i) (b .loop-test .taken) (c .if1 .left))
+    (omega arith, b .before .loop .inv .1 ∙ position-further (a .members .now) (a .address) (b .before .loop .i) (b .loop-test .taken) (c .if1 .left))
 
 returns : tie.Need-returns Inv-loop μ-loop
 returns c =
     let l = c .before .loop in
     let a = c .before .before .args in
-    sym (l .inv .1 ∙ none (a .members .now) (a .address) (l .i) (c .loop-test .left))
+    sym (l .inv .1 ∙ position-none (a .members .now) (a .address) (l .i) (c .loop-test .left))
 
 returns-2 : tie.Need-returns-2 Inv-loop μ-loop
 returns-2 c =
     let b = c .before .before in
     let a = b .before .before .args in
-    sym (b .before .loop .inv .1 ∙ here (a .members .now) (a .address) (b .before .loop .i) (b .loop-test .taken) (c .if1 .taken))
+    sym (b .before .loop .inv .1 ∙ position-here (a .members .now) (a .address) (b .before .loop .i) (b .loop-test .taken) (c .if1 .taken))
 
 pub position-spec : {M : Type 1} → statement M
 position-spec =

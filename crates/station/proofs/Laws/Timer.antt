@@ -1,0 +1,80 @@
+-- Laws of the rule for the timer: what each step is, when its parts are so. Assumes nothing.
+use mathlib.Core.Path.{_≡_, refl, sym, ap, _∙_}
+use mathlib.Core.Bool.{true, false, not}
+use Prim.Native.Nat.{ℕ, _<_, _≤_}
+use borrow.Author.Tests.{lt-ltb, le-ltb, eq-eqb, ne-eqb}
+use Rattle.station.specs.Moves.{moveOf}
+use Rattle.station.specs.Live.{liveAt}
+use Rattle.station.specs.Stations.{stateOf, awaitedOf, quiet, alone}
+use Rattle.station.specs.Round.{sight, startRound, forward}
+use Rattle.station.specs.Strike.{newly, strike, giveUpTo, giveUpFlight, told}
+use Rattle.station.specs.Timer.{again, renamed, tokenAgain, resend, unanswered, leftAlone, goesOn, afterStrike, silence, onTimer, timerRule}
+use Rattle.station.specs.declared.moves.State.the-variants.{Idle, Waiting}
+use Rattle.station.specs.declared.moves.Event.the-variants.{Timer}
+use Rattle.station.specs.declared.frame.Whom.{Whom}
+use Rattle.station.specs.declared.frame.Whom.the-variants.{Member}
+use Rattle.station.specs.declared.frame.Frame.{Frame}
+use Rattle.station.specs.declared.frame.Dispatch.{Dispatch}
+use Rattle.station.specs.declared.frame.Dispatch.the-variants.{Sent}
+use Rattle.station.specs.declared.station.Station.{Station}
+use Rattle.station.specs.declared.rules.round.Sight.{Sight}
+use Rattle.station.specs.declared.rules.round.Bid.{Bid}
+use Rattle.station.specs.declared.rules.strike.Loss.{Loss}
+use Rattle.station.specs.declared.rules.strike.Struck.{Struck}
+use Rattle.station.proofs.Laws.Choose.{pick-true, pick-false}
+use Rattle.station.proofs.Laws.Moved.{moved-runs}
+
+-- ---- a token instead of a token
+
+pub again-own : (v : Sight) (number to master : ℕ) (b : Bid) → master ≡ v .own → startRound v number (Member to) ≡ tokenAgain v number to master b
+unfolding tokenAgain
+again-own v number to master b h = rw (eq-eqb _ _ h)
+
+pub again-struck : (v : Sight) (number to master : ℕ) (b : Bid) → (master ≡ v .own → ⊥) → not (liveAt (v .live) master) ≡ true
+    → startRound v number (Member to) ≡ tokenAgain v number to master b
+unfolding tokenAgain
+again-struck v number to master b h i = rw (ne-eqb _ _ h, i)
+
+pub again-passed : (v : Sight) (number to master : ℕ) (b d : Bid) → (master ≡ v .own → ⊥) → not (liveAt (v .live) master) ≡ false
+    → d ≡ renamed v to b → forward v number master (Member to) d ≡ tokenAgain v number to master b
+unfolding tokenAgain
+again-passed v number to master b d h i e = rw (ne-eqb _ _ h, i, e)
+
+-- ---- the addressee is struck
+
+pub unanswered-steps : (s : Station) (to : ℕ) (w : Whom) (t : Station) (l m : Loss) → w ≡ newly (s .live) to → t ≡ strike s to → l ≡ giveUpTo t to
+    → m ≡ giveUpFlight l → told m w ≡ unanswered s to
+unfolding unanswered
+unanswered-steps s to w t l m n e g h = rw (h, g, e, n)
+
+pub after-none : (k : Struck) (to : ℕ) (f : Frame) → alone (k .station) ≡ true → leftAlone k ≡ afterStrike k to f
+unfolding afterStrike
+after-none k to f a = sym (pick-true _ _ a)
+
+pub after-others : (k : Struck) (to : ℕ) (f : Frame) (t : Station) (v : Sight) (d : Dispatch) → alone (k .station) ≡ false
+    → t ≡ quiet (k .station) Idle → v ≡ sight t → d ≡ resend v to f → goesOn k d ≡ afterStrike k to f
+unfolding afterStrike
+after-others k to f t v d a e i j = rw (j, i, e) (sym (pick-false _ _ a))
+
+-- ---- below the limit, and at the last timer
+
+pub silence-again : (s : Station) (to : ℕ) (f : Frame) → s .turn .retries < s .limit → again s ≡ silence s to f
+unfolding silence
+silence-again s to f h = sym (pick-true _ _ (lt-ltb _ _ h))
+
+pub silence-last : (s : Station) (to : ℕ) (f : Frame) (k : Struck) → s .limit ≤ s .turn .retries → k ≡ unanswered s to
+    → afterStrike k to f ≡ silence s to f
+unfolding silence
+silence-last s to f k h e = rw e (sym (pick-false _ _ (le-ltb _ _ h)))
+
+-- where a frame is awaited, the rule is these two
+pub timer-runs : (s : Station) (f : Frame) (to : ℕ) → stateOf s ≡ Waiting → awaitedOf s ≡ Sent f to → timerRule s ≡ silence s to f
+unfolding timerRule onTimer
+timer-runs s f to w e = moved-runs s Timer (onTimer s (awaitedOf s)) (ap (λ st. moveOf st Timer) (sym w)) refl ∙ rw e
+
+pub timer-again : (s : Station) (f : Frame) (to : ℕ) → stateOf s ≡ Waiting → awaitedOf s ≡ Sent f to → s .turn .retries < s .limit → timerRule s ≡ again s
+timer-again s f to w e h = timer-runs s f to w e ∙ sym (silence-again s to f h)
+
+pub timer-last : (s : Station) (f : Frame) (to : ℕ) → stateOf s ≡ Waiting → awaitedOf s ≡ Sent f to → s .limit ≤ s .turn .retries
+    → timerRule s ≡ afterStrike (unanswered s to) to f
+timer-last s f to w e h = timer-runs s f to w e ∙ sym (silence-last s to f (unanswered s to) h refl)

@@ -1,0 +1,14 @@
+pub mod Choose
+pub mod Moves
+pub mod Messages
+pub mod Live
+pub mod Frames
+pub mod Stations
+pub mod Round
+pub mod Strike
+pub mod Start
+pub mod Heard
+pub mod Timer
+pub mod Queue
+pub mod Take
+pub mod Whole

@@ -1,0 +1,177 @@
+-- The station's fields, and what a call answers.
+use mathlib.Core.Bool.{Bool, true, false}
+use mathlib.Core.List.{List}
+use Prim.Native.Nat.{ℕ, _+_, _-_}
+use lib.Dec.{leb, eqb}
+use Rattle.station.specs.Choose.{pick}
+use Rattle.station.specs.Moves.{moveOf, runs}
+use Rattle.station.specs.Messages.{none, all, best}
+use Rattle.station.specs.Live.{full, successor}
+use Rattle.station.specs.Frames.{flight}
+use Rattle.station.specs.declared.moves.State.{State}
+use Rattle.station.specs.declared.moves.State.the-variants.{Offline, Idle, Waiting, Alone, Excluded}
+use Rattle.station.specs.declared.moves.Event.{Event}
+use Rattle.station.specs.declared.live.Live.{Live}
+use Rattle.station.specs.declared.list.Message.{Message}
+use Rattle.station.specs.declared.list.Messages.{Messages}
+use Rattle.station.specs.declared.list.Best.{Best}
+use Rattle.station.specs.declared.list.Which.the-variants.{AnyWaiting}
+use Rattle.station.specs.declared.frame.Whom.{Whom}
+use Rattle.station.specs.declared.frame.Whom.the-variants.{Nobody, Member}
+use Rattle.station.specs.declared.frame.Frame.{Frame}
+use Rattle.station.specs.declared.frame.Dispatch.{Dispatch}
+use Rattle.station.specs.declared.frame.Dispatch.the-variants.{Nothing, Sent}
+use Rattle.station.specs.declared.station.Handled.{Handled}
+use Rattle.station.specs.declared.station.Handled.the-variants.{Never, Last}
+use Rattle.station.specs.declared.station.Turn.{Turn}
+use Rattle.station.specs.declared.station.Station.{Station}
+use Rattle.station.specs.declared.station.Payload.{Payload}
+use Rattle.station.specs.declared.station.Payload.the-variants.{NoPayload, Of}
+use Rattle.station.specs.declared.station.Answer.{Answer}
+
+-- ---- one field anew
+
+abbrev pub withTurn : Station → Turn → Station
+withTurn s t =
+    record {
+      n = s .n;
+      limit = s .limit;
+      own = s .own;
+      live = s .live;
+      sends = s .sends;
+      receives = s .receives;
+      turn = t;
+      lost = s .lost;
+      givenup = s .givenup;
+    }
+
+abbrev pub withLive : Station → Live → Station
+withLive s l =
+    record {
+      n = s .n;
+      limit = s .limit;
+      own = s .own;
+      live = l;
+      sends = s .sends;
+      receives = s .receives;
+      turn = s .turn;
+      lost = s .lost;
+      givenup = s .givenup;
+    }
+
+abbrev pub withSends : Station → Messages → Station
+withSends s l =
+    record {
+      n = s .n;
+      limit = s .limit;
+      own = s .own;
+      live = s .live;
+      sends = l;
+      receives = s .receives;
+      turn = s .turn;
+      lost = s .lost;
+      givenup = s .givenup;
+    }
+
+abbrev pub withReceives : Station → Messages → Station
+withReceives s l =
+    record {
+      n = s .n;
+      limit = s .limit;
+      own = s .own;
+      live = s .live;
+      sends = s .sends;
+      receives = l;
+      turn = s .turn;
+      lost = s .lost;
+      givenup = s .givenup;
+    }
+
+abbrev pub withLost : Station → ℕ → Station
+withLost s k =
+    record {
+      n = s .n;
+      limit = s .limit;
+      own = s .own;
+      live = s .live;
+      sends = s .sends;
+      receives = s .receives;
+      turn = s .turn;
+      lost = k;
+      givenup = s .givenup;
+    }
+
+abbrev pub withGivenUp : Station → ℕ → Station
+withGivenUp s k =
+    record {
+      n = s .n;
+      limit = s .limit;
+      own = s .own;
+      live = s .live;
+      sends = s .sends;
+      receives = s .receives;
+      turn = s .turn;
+      lost = s .lost;
+      givenup = k;
+    }
+
+-- ---- what a station stands at
+
+abbrev pub stateOf : Station → State
+stateOf s = s .turn .state
+
+abbrev pub awaitedOf : Station → Dispatch
+awaitedOf s = s .turn .awaited
+
+-- Offline at first; all N live; both lists empty; no number handled; no frame awaited; the counts at 0
+abbrev pub made : ℕ → ℕ → ℕ → Station
+made n limit own =
+    record {
+      n = n;
+      limit = limit;
+      own = own;
+      live = full n;
+      sends = none;
+      receives = none;
+      turn = record { state = Offline; awaited = Nothing; handled = Never; retries = 0 };
+      lost = 0;
+      givenup = 0;
+    }
+
+-- in a state with no frame awaited; the retry count stays
+abbrev pub quiet : Station → State → Station
+quiet s st = withTurn s (record { state = st; awaited = Nothing; handled = s .turn .handled; retries = s .turn .retries })
+
+-- a frame is sent: "the station becomes Waiting with retry count 0"
+abbrev pub sending : Station → Handled → Dispatch → Station
+sending s handled d = withTurn s (record { state = Waiting; awaited = d; handled = handled; retries = 0 })
+
+-- "both counts stop at 4,294,967,295"
+unfoldable pub addUpTo : ℕ → ℕ → ℕ
+addUpTo c k = pick (leb k (4294967295 - c)) (c + k) 4294967295
+
+-- k messages more were given up
+abbrev pub counted : Station → ℕ → Station
+counted s k = withGivenUp s (addUpTo (s .givenup) k)
+
+-- nobody else is left
+abbrev pub alone : Station → Bool
+alone s = eqb (successor (s .live) (s .n) (s .own)) (s .own)
+
+-- "the head is the waiting message with the highest priority, the earliest accepted among equals; the one in flight does not wait"
+unfoldable pub head : Station → Best
+head s = best (AnyWaiting (flight (awaitedOf s))) (s .sends)
+
+-- ---- answers
+
+-- a number alone: the station as it came, nothing sent, nobody told
+abbrev pub answered : Station → ℕ → Answer
+answered s number = record { station = s; number = number; sent = Nothing; struck = Nobody; gone = none; payload = NoPayload }
+
+-- the table of moves is looked up before a call acts
+unfoldable pub moved : Station → Event → Answer → Answer
+moved s e a = pick (eqb (moveOf (stateOf s) e) runs) a (answered s (moveOf (stateOf s) e))
+
+-- a refusal's number where there is one, else what the call does
+unfoldable pub unless : Station → ℕ → Answer → Answer
+unless s number a = pick (eqb number 0) a (answered s number)

@@ -1,0 +1,47 @@
+-- "Take removes the best message of a channel: highest priority, earliest among equals."
+use mathlib.Core.Bool.{Bool, not}
+use mathlib.Core.List.{List, [], _∷_}
+use Prim.Native.Nat.{ℕ}
+use lib.Dec.{ltb}
+use Rattle.station.specs.Choose.{pick}
+use Rattle.codec.specs.Order.{firstOf}
+use Rattle.station.specs.Messages.{none, best, splitBy}
+use Rattle.station.specs.Stations.{withReceives, moved, unless}
+use Rattle.station.specs.declared.moves.Event.the-variants.{Take}
+use Rattle.station.specs.declared.list.Message.{Message}
+use Rattle.station.specs.declared.list.Best.{Best}
+use Rattle.station.specs.declared.list.Parts.{Parts}
+use Rattle.station.specs.declared.list.Which.the-variants.{HasPlace, OnChannel}
+use Rattle.station.specs.declared.frame.Whom.the-variants.{Nobody}
+use Rattle.station.specs.declared.frame.Dispatch.the-variants.{Nothing}
+use Rattle.station.specs.declared.station.Station.{Station}
+use Rattle.station.specs.declared.station.Payload.the-variants.{Of}
+use Rattle.station.specs.declared.station.Answer.{Answer}
+
+-- channel above 7; no message on the channel; take's room shorter than the message
+unfoldable pub takeRefusal : ℕ → Best → ℕ → ℕ
+takeRefusal channel b room =
+    firstOf 0
+    ((ltb 7 channel, 17)
+    ∷ (not (b .some), 20)
+    ∷ (ltb room (b .message .length), 21)
+    ∷ [])
+
+abbrev pub bestOn : Station → ℕ → Best
+bestOn s channel = best (OnChannel channel) (s .receives)
+
+-- the message leaves the receive list and is handed back
+unfoldable pub taking : Station → Message → Answer
+taking s m =
+    record {
+      station = withReceives s (splitBy (HasPlace (m .place)) (s .receives) .kept);
+      number = 0;
+      sent = Nothing;
+      struck = Nobody;
+      gone = none;
+      payload = Of m;
+    }
+
+unfoldable pub takeRule : Station → ℕ → ℕ → Answer
+takeRule s channel room =
+    moved s Take (unless s (takeRefusal channel (bestOn s channel) room) (taking s (bestOn s channel .message)))

@@ -1,0 +1,100 @@
+-- "Timer while Waiting."
+use mathlib.Core.Bool.{Bool, not}
+use mathlib.Core.List.{List, [], _∷_}
+use Prim.Native.Nat.{ℕ, _+_}
+use lib.Dec.{ltb, eqb}
+use Rattle.station.specs.Choose.{pick}
+use Rattle.codec.specs.Order.{firstOf}
+use Rattle.station.specs.Messages.{none}
+use Rattle.station.specs.Live.{liveAt}
+use Rattle.station.specs.Frames.{numberOf, next}
+use Rattle.station.specs.Stations.{withTurn, awaitedOf, quiet, sending, alone, answered, moved}
+use Rattle.station.specs.Round.{sight, startRound, ownBid, forward}
+use Rattle.station.specs.Strike.{newly, strike, giveUpTo, giveUpFlight, told}
+use Rattle.station.specs.declared.moves.State.the-variants.{Idle, Alone}
+use Rattle.station.specs.declared.moves.Event.the-variants.{Timer}
+use Rattle.station.specs.declared.frame.Whom.{Whom}
+use Rattle.station.specs.declared.frame.Whom.the-variants.{Nobody, Member}
+use Rattle.station.specs.declared.frame.Frame.{Frame}
+use Rattle.station.specs.declared.frame.Frame.the-variants.{Token, Transmit, Information}
+use Rattle.station.specs.declared.frame.Dispatch.{Dispatch}
+use Rattle.station.specs.declared.frame.Dispatch.the-variants.{Nothing, Sent}
+use Rattle.station.specs.declared.station.Station.{Station}
+use Rattle.station.specs.declared.station.Payload.the-variants.{NoPayload}
+use Rattle.station.specs.declared.station.Answer.{Answer}
+use Rattle.station.specs.declared.rules.round.Sight.{Sight}
+use Rattle.station.specs.declared.rules.round.Bid.{Bid}
+use Rattle.station.specs.declared.rules.strike.Struck.{Struck}
+
+-- ---- below R: "the same frame goes again, same number, count one more"
+
+abbrev pub onceMore : Station → Station
+onceMore s =
+    withTurn s
+    (record
+    { state = s .turn .state; awaited = s .turn .awaited; handled = s .turn .handled; retries = s .turn .retries + 1 })
+
+abbrev pub again : Station → Answer
+again s =
+    record
+    { station = onceMore s; number = 0; sent = awaitedOf s; struck = Nobody; gone = none; payload = NoPayload }
+
+-- ---- the last timer, for a frame to `to`
+
+-- "if the struck station was named, name and priority become this station's own (0 if no head)"
+unfoldable pub renamed : Sight → ℕ → Bid → Bid
+renamed v to b = pick (eqb (b .named) to) (ownBid v) b
+
+-- a token passed on for a master still live goes to the new successor; one of its own starts a round
+unfoldable pub tokenAgain : Sight → ℕ → ℕ → ℕ → Bid → Dispatch
+tokenAgain v number to master b =
+    firstOf (forward v number master (Member to) (renamed v to b))
+    ((eqb master (v .own), startRound v number (Member to))
+    ∷ (not (liveAt (v .live) master), startRound v number (Member to))
+    ∷ [])
+
+-- "in all other cases a round starts, also with the number after the old frame's. The token sent here names the struck
+-- station as failing"
+unfoldable pub resend : Sight → ℕ → Frame → Dispatch
+resend v to (Token number priority master failing named) =
+    tokenAgain v (next number) to master (record { priority = priority; named = named })
+resend v to (Transmit number priority master named) = startRound v (next number) (Member to)
+resend v to (Information number priority channel length place) = startRound v (next number) (Member to)
+
+-- the addressee is struck; waiting messages to it, then any message in flight, are given up
+unfoldable pub unanswered : Station → ℕ → Struck
+unanswered s to = told (giveUpFlight (giveUpTo (strike s to) to)) (newly (s .live) to)
+
+-- "if alone: Alone, no frame"
+abbrev pub leftAlone : Struck → Answer
+leftAlone k =
+    record
+    { station = quiet (k .station) Alone; number = 0; sent = Nothing; struck = k .struck; gone = k .gone; payload = NoPayload }
+
+-- a frame of retry count 0
+abbrev pub goesOn : Struck → Dispatch → Answer
+goesOn k d =
+    record {
+      station = sending (k .station) (k .station .turn .handled) d;
+      number = 0;
+      sent = d;
+      struck = k .struck;
+      gone = k .gone;
+      payload = NoPayload;
+    }
+
+unfoldable pub afterStrike : Struck → ℕ → Frame → Answer
+afterStrike k to f = pick (alone (k .station)) (leftAlone k) (goesOn k (resend (sight (quiet (k .station) Idle)) to f))
+
+-- ---- the two
+
+unfoldable pub silence : Station → ℕ → Frame → Answer
+silence s to f = pick (ltb (s .turn .retries) (s .limit)) (again s) (afterStrike (unanswered s to) to f)
+
+-- a Waiting station awaits a frame; without one there is nothing to do
+unfoldable pub onTimer : Station → Dispatch → Answer
+onTimer s Nothing = answered s 0
+onTimer s (Sent frame to) = silence s to frame
+
+unfoldable pub timerRule : Station → Answer
+timerRule s = moved s Timer (onTimer s (awaitedOf s))

@@ -1,0 +1,112 @@
+// Queue.
+ghost use mathlib.Core.Path.{_≡_};
+ghost use Prim.Native.Nat.{_≤_};
+ghost use Rattle.station.specs.Queue.{queueRefusal, queueNumber, joining, accepted, queueRule};
+use crate::frame::Dispatch;
+use crate::frame::Whom;
+use crate::list::Message;
+use crate::moves::Event;
+use crate::station::Answer;
+use crate::station::Payload;
+use crate::station::Station;
+
+// The checks in their order, over plain values.
+pub fn queue_refusal(
+    n: u8,
+    own: u8,
+    live: bool,
+    len: usize,
+    to: usize,
+    priority: usize,
+    channel: usize,
+    length: usize,
+) -> u32
+    ensures { λ r. ⌜ r ≡ queueRefusal n own live len to priority channel length ⌝ }
+{
+    if priority == 0 {
+        return 14;
+    }
+    if 255 < priority {
+        return 14;
+    }
+    if n as usize <= to {
+        return 15;
+    }
+    if to == own as usize {
+        return 15;
+    }
+    if !live {
+        return 16;
+    }
+    if 7 < channel {
+        return 17;
+    }
+    if 1492 < length {
+        return 18;
+    }
+    if 16 <= len {
+        return 19;
+    }
+    0
+}
+
+pub fn check_queue(s: Station, to: usize, priority: usize, channel: usize, length: usize) -> u32
+    ensures { λ r. ⌜ r ≡ queueNumber s to priority channel length ⌝ }
+{
+    let live = crate::live::is_live(s.live, to);
+    let l = s.sends;
+    queue_refusal(s.n, s.own, live, l.len, to, priority, channel, length)
+}
+
+pub fn join(s: Station, m: Message) -> Answer
+    ensures { λ r. ⌜ r ≡ joining s m ⌝ }
+{
+    let more = crate::list::push(s.sends, m);
+    let station = crate::station::with_sends(s, more);
+    let gone = crate::list::empty();
+    Answer {
+        station,
+        number: 0,
+        sent: Dispatch::Nothing,
+        struck: Whom::Nobody,
+        gone,
+        payload: Payload::Of(m),
+    }
+}
+
+pub fn accept(s: Station, to: usize, priority: usize, channel: usize, length: usize) -> Answer
+    requires { ⌜ to ≤ 255 ⌝ }
+    requires { ⌜ priority ≤ 255 ⌝ }
+    requires { ⌜ channel ≤ 7 ⌝ }
+    requires { ⌜ length ≤ 1492 ⌝ }
+    ensures { λ r. ⌜ r ≡ accepted s to priority channel length ⌝ }
+{
+    let place = crate::list::lowest_free(s.sends);
+    let m = Message {
+        other: to as u8,
+        priority: priority as u8,
+        channel: channel as u8,
+        length: length as u16,
+        place,
+    };
+    join(s, m)
+}
+
+impl Station {
+    // A message to the position `to` is handed over.
+    pub fn queue(self, to: usize, priority: usize, channel: usize, length: usize) -> Answer
+        ensures { λ r. ⌜ r ≡ queueRule self to priority channel length ⌝ }
+    {
+        let turn = self.turn;
+        let state = turn.state;
+        let m = crate::moves::move_of(state, Event::Queue);
+        if m != crate::moves::RUN {
+            return crate::station::number_alone(self, m);
+        }
+        let k = check_queue(self, to, priority, channel, length);
+        if k != 0 {
+            return crate::station::number_alone(self, k);
+        }
+        accept(self, to, priority, channel, length)
+    }
+}

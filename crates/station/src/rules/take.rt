@@ -1,0 +1,72 @@
+// Take.
+ghost use mathlib.Core.Path.{_≡_};
+ghost use Rattle.station.specs.Take.{takeRefusal, bestOn, taking, takeRule};
+use crate::frame::Dispatch;
+use crate::frame::Whom;
+use crate::list::Best;
+use crate::list::Message;
+use crate::list::Which;
+use crate::moves::Event;
+use crate::station::Answer;
+use crate::station::Payload;
+use crate::station::Station;
+
+// The checks in their order.
+pub fn take_refusal(channel: usize, b: Best, room: usize) -> u32
+    ensures { λ r. ⌜ r ≡ takeRefusal channel b room ⌝ }
+{
+    if 7 < channel {
+        return 17;
+    }
+    if !b.some {
+        return 20;
+    }
+    if room < b.message.length as usize {
+        return 21;
+    }
+    0
+}
+
+pub fn best_on(s: Station, channel: usize) -> Best
+    ensures { λ r. ⌜ r ≡ bestOn s channel ⌝ }
+{
+    let w = Which::OnChannel(channel);
+    crate::list::choose(s.receives, w)
+}
+
+pub fn hand_out(s: Station, m: Message) -> Answer
+    ensures { λ r. ⌜ r ≡ taking s m ⌝ }
+{
+    let w = Which::HasPlace(m.place);
+    let d = crate::list::split(s.receives, w);
+    let station = crate::station::with_receives(s, d.kept);
+    let gone = crate::list::empty();
+    Answer {
+        station,
+        number: 0,
+        sent: Dispatch::Nothing,
+        struck: Whom::Nobody,
+        gone,
+        payload: Payload::Of(m),
+    }
+}
+
+impl Station {
+    // The best message of a channel is handed out, where it has room.
+    pub fn take(self, channel: usize, room: usize) -> Answer
+        ensures { λ r. ⌜ r ≡ takeRule self channel room ⌝ }
+    {
+        let turn = self.turn;
+        let state = turn.state;
+        let m = crate::moves::move_of(state, Event::Take);
+        if m != crate::moves::RUN {
+            return crate::station::number_alone(self, m);
+        }
+        let b = best_on(self, channel);
+        let k = take_refusal(channel, b, room);
+        if k != 0 {
+            return crate::station::number_alone(self, k);
+        }
+        hand_out(self, b.message)
+    }
+}

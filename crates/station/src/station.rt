@@ -1,0 +1,197 @@
+// The station and what a call answers.
+ghost use mathlib.Core.Path.{_≡_};
+ghost use Rattle.station.specs.Stations.{
+  made,
+  withTurn,
+  withLive,
+  withSends,
+  withReceives,
+  quiet,
+  sending,
+  addUpTo,
+  counted,
+  answered,
+  alone,
+};
+use crate::frame::Dispatch;
+use crate::frame::Whom;
+use crate::list::Message;
+use crate::list::Messages;
+use crate::live::Live;
+use crate::moves::State;
+
+// The last handled number, or none.
+pub enum Handled {
+    Never,
+    Last(u16),
+}
+
+// Where the station stands: its state, the frame it awaits an acknowledgement for, the last handled number, the retry count.
+pub struct Turn {
+    pub state: State,
+    pub awaited: Dispatch,
+    pub handled: Handled,
+    pub retries: u8,
+}
+
+// A station of a ring of `n` with the retry limit `limit`, at the position `own`.
+pub struct Station {
+    pub n: u8,
+    pub limit: u8,
+    pub own: u8,
+    pub live: Live,
+    pub sends: Messages,
+    pub receives: Messages,
+    pub turn: Turn,
+    pub lost: u32,
+    pub givenup: u32,
+}
+
+// Whose payload a call moves, or none: queue and frame put it into the message's place, take hands it out.
+pub enum Payload {
+    NoPayload,
+    Of(Message),
+}
+
+// What every call answers: the station handed back, the number, the frame to send, the station newly struck, the messages
+// given up in order, the message whose payload moves.
+pub struct Answer {
+    pub station: Station,
+    pub number: u32,
+    pub sent: Dispatch,
+    pub struck: Whom,
+    pub gone: Messages,
+    pub payload: Payload,
+}
+
+pub fn with_turn(s: Station, t: Turn) -> Station
+    ensures { λ r. ⌜ r ≡ withTurn s t ⌝ }
+{
+    let mut o = s;
+    o.turn = t;
+    o
+}
+
+pub fn with_live(s: Station, l: Live) -> Station
+    ensures { λ r. ⌜ r ≡ withLive s l ⌝ }
+{
+    let mut o = s;
+    o.live = l;
+    o
+}
+
+pub fn with_sends(s: Station, l: Messages) -> Station
+    ensures { λ r. ⌜ r ≡ withSends s l ⌝ }
+{
+    let mut o = s;
+    o.sends = l;
+    o
+}
+
+pub fn with_receives(s: Station, l: Messages) -> Station
+    ensures { λ r. ⌜ r ≡ withReceives s l ⌝ }
+{
+    let mut o = s;
+    o.receives = l;
+    o
+}
+
+// In `state`, with no frame awaited.
+pub fn at_rest(s: Station, state: State) -> Station
+    ensures { λ r. ⌜ r ≡ quiet s state ⌝ }
+{
+    let t = s.turn;
+    let handled = t.handled;
+    let u = Turn {
+        state,
+        awaited: Dispatch::Nothing,
+        handled,
+        retries: t.retries,
+    };
+    with_turn(s, u)
+}
+
+// Waiting for the acknowledgement of `d`, with `handled` as the last handled number.
+pub fn sends_out(s: Station, handled: Handled, d: Dispatch) -> Station
+    ensures { λ r. ⌜ r ≡ sending s handled d ⌝ }
+{
+    let u = Turn {
+        state: State::Waiting,
+        awaited: d,
+        handled,
+        retries: 0,
+    };
+    with_turn(s, u)
+}
+
+// `k` more, up to 4,294,967,295.
+pub fn add_up_to(c: u32, k: usize) -> u32
+    ensures { λ r. ⌜ r ≡ addUpTo c k ⌝ }
+{
+    let room = (4294967295 - c) as usize;
+    if k <= room {
+        c + (k as u32)
+    } else {
+        4294967295
+    }
+}
+
+// `k` more messages given up.
+pub fn count_given_up(s: Station, k: usize) -> Station
+    ensures { λ r. ⌜ r ≡ counted s k ⌝ }
+{
+    let g = add_up_to(s.givenup, k);
+    let mut o = s;
+    o.givenup = g;
+    o
+}
+
+// An answer of a number alone.
+pub fn number_alone(s: Station, number: u32) -> Answer
+    ensures { λ r. ⌜ r ≡ answered s number ⌝ }
+{
+    let gone = crate::list::empty();
+    Answer {
+        station: s,
+        number,
+        sent: Dispatch::Nothing,
+        struck: Whom::Nobody,
+        gone,
+        payload: Payload::NoPayload,
+    }
+}
+
+// Whether nobody else is left.
+pub fn is_alone(s: Station) -> bool
+    ensures { λ r. ⌜ r ≡ alone s ⌝ }
+{
+    crate::live::next_live(s.live, s.n, s.own) == s.own
+}
+
+impl Station {
+    // A station as it is made: Offline, with all members live.
+    pub fn new(n: u8, limit: u8, own: u8) -> Station
+        ensures { λ r. ⌜ r ≡ made n limit own ⌝ }
+    {
+        let live = crate::live::all_members(n);
+        let sends = crate::list::empty();
+        let receives = crate::list::empty();
+        let turn = Turn {
+            state: State::Offline,
+            awaited: Dispatch::Nothing,
+            handled: Handled::Never,
+            retries: 0,
+        };
+        Station {
+            n,
+            limit,
+            own,
+            live,
+            sends,
+            receives,
+            turn,
+            lost: 0,
+            givenup: 0,
+        }
+    }
+}

@@ -1,0 +1,23 @@
+-- Laws that the theorems use, one idea a file.
+pub mod Take
+pub mod Tests
+pub mod Kept
+pub mod Carried
+pub mod Sound
+pub mod Places
+pub mod Telling
+pub mod Told
+pub mod Seats
+pub mod Based
+pub mod Sending
+pub mod Struck
+pub mod Members
+pub mod States
+pub mod Acknowledged
+pub mod Failed
+pub mod Handled
+pub mod Only
+pub mod Leaving
+pub mod Leaves
+pub mod Landed
+pub mod Fates

@@ -1,0 +1,185 @@
+-- Laws of what is sent: each frame that a station composes is fit, goes to another member, and carries a message that is there.
+-- Assumes nothing.
+use mathlib.Core.Path.{_≡_, refl, sym, ap, _∙_}
+use mathlib.Core.Bool.{Bool, true, false, not, cond, false≢true}
+use Prim.Native.Nat.{ℕ, _<_}
+use lib.Dec.{eqb}
+use borrow.Author.Tests.{lt-ltb, le-ltb, lt-leb, leb-true, leb-false, ltb-true, eqb-false, eq-eqb, ne-eqb, not-true}
+use Rattle.station.specs.Choose.{pick, every}
+use Rattle.station.specs.Messages.{all, best, theBest}
+use Rattle.station.specs.Live.{liveAt, successor}
+use Rattle.station.specs.Frames.{next, memberOrNobody, fit}
+use Rattle.station.specs.Stations.{alone, head}
+use Rattle.station.specs.Round.{sight, startRound, informationOf, sendHead, grant, returned, ownBid, cleared, raised, forward, passOn, onToken, reply}
+use Rattle.station.specs.Timer.{renamed, tokenAgain, resend}
+use Rattle.station.specs.Whole.{messageGood, listGood, sameMessage, carried, awaitedGood}
+use Rattle.station.specs.declared.moves.State.the-variants.{Waiting}
+use Rattle.station.specs.declared.list.Message.{Message}
+use Rattle.station.specs.declared.list.Best.{Best}
+use Rattle.station.specs.declared.frame.Whom.{Whom}
+use Rattle.station.specs.declared.frame.Whom.the-variants.{Nobody, Member}
+use Rattle.station.specs.declared.frame.Frame.{Frame}
+use Rattle.station.specs.declared.frame.Frame.the-variants.{Token, Transmit, Information}
+use Rattle.station.specs.declared.frame.Dispatch.{Dispatch}
+use Rattle.station.specs.declared.frame.Dispatch.the-variants.{Sent}
+use Rattle.station.specs.declared.rules.round.Bid.{Bid}
+use Rattle.station.specs.declared.station.Station.{Station}
+use Rattle.station.proofs.Laws.Choose.{pick-false}
+use Rattle.station_theorems.proofs.Laws.Tests.{held, hold}
+use Rattle.station_theorems.proofs.Laws.Kept.{list-messages, list-apart}
+use Rattle.station_theorems.proofs.Laws.Carried.{each-within, best-found}
+use Rattle.station_theorems.proofs.Theorems.Successor.{successor-is}
+use Rattle.station_theorems.proofs.Theorems.Head.{head-is-first}
+
+-- ---- a test that must not hold, then another
+
+pub passes : {b c : Bool} → pick b false c ≡ true → (b ≡ false) × (c ≡ true)
+unfolding pick
+passes {b} {c} = go b
+  where
+    go : (b : Bool) → pick b false c ≡ true → (b ≡ false) × (c ≡ true)
+    go true e = absurd (false≢true e)
+    go false e = (refl, e)
+
+pub pass : {b c : Bool} → b ≡ false → c ≡ true → pick b false c ≡ true
+pass p q = pick-false _ _ p ∙ q
+
+-- ---- either way
+
+either : (P : Dispatch → Type 0) (b : Bool) (x y : Dispatch) → (b ≡ true → P x) → (b ≡ false → P y) → P (pick b x y)
+unfolding pick
+either P true x y p q = p refl
+either P false x y p q = q refl
+
+first-of : (P : Dispatch → Type 0) (b : Bool) (x y : Dispatch) → (b ≡ true → P x) → (b ≡ false → P y) → P (cond b x y)
+first-of P true x y p q = p refl
+first-of P false x y p q = q refl
+
+bid-of : (n : ℕ) (b : Bool) (x y : Bid) → x .named < n → y .named < n → pick b x y .named < n
+unfolding pick
+bid-of n true x y p q = p
+bid-of n false x y p q = q
+
+-- ---- a station with others
+
+module _ (s : Station) (member : s .own < s .n) (good : listGood (s .n) (s .own) (s .sends) ≡ true) (others : alone s ≡ false) where
+  -- a frame that it may await an acknowledgement for
+  abbrev pub Proper : Dispatch → Type 0
+  Proper d = awaitedGood Waiting (s .n) (s .own) (s .sends) d ≡ true
+
+  proper : (f : Frame) (to : ℕ) → fit (s .n) f ≡ true → to < s .n → (to ≡ s .own → ⊥) → carried (s .sends) f to ≡ true → Proper (Sent f to)
+  unfolding awaitedGood
+  proper f to a b c d = hold _ (refl, (a, (lt-ltb to (s .n) b, (ap not (ne-eqb to (s .own) c), (d, tt)))))
+
+  -- a token to the successor
+  token-proper : (number priority master : ℕ) (failing : Whom) (named : ℕ) → master < s .n → memberOrNobody (s .n) failing ≡ true → named < s .n
+      → Proper (Sent (Token number priority master failing named) (successor (s .live) (s .n) (s .own)))
+  unfolding carried
+  token-proper number priority master failing named a b c =
+      let k = successor-is (s .n) (s .own) member (s .live) .next (eqb-false _ _ others) in
+      proper (Token number priority master failing named) (successor (s .live) (s .n) (s .own)) (pass (lt-leb (s .n) master a) (pass (lt-leb (s .n) named c) b)) (k .member) (k .another) refl
+
+  pub round-proper : (number : ℕ) (failing : Whom) → memberOrNobody (s .n) failing ≡ true → Proper (startRound (sight s) number failing)
+  unfolding startRound
+  round-proper number failing e = token-proper number _ (s .own) failing (s .own) member e member
+
+  -- the head
+  found-same : (b : Best) (m : Message) → b ≡ theBest m → sameMessage b (m .other) (m .priority) (m .channel) (m .length) ≡ true
+  unfolding sameMessage
+  found-same b m e =
+      ap (λ (x : Best). sameMessage x (m .other) (m .priority) (m .channel) (m .length)) e
+      ∙ hold _ (
+        refl,
+        (
+          eq-eqb (m .other) (m .other) refl,
+          (
+            eq-eqb (m .priority) (m .priority) refl,
+            (
+              eq-eqb (m .channel) (m .channel) refl,
+              (eq-eqb (m .length) (m .length) refl, tt),
+            ),
+          ),
+        ),
+      )
+
+  head-proper : (number : ℕ) → head s .some ≡ true → Proper (informationOf number (head s .message))
+  unfolding messageGood carried best
+  head-proper number e =
+      let m : Message = head s .message in
+      let f = head-is-first s .first e in
+      let g = held _ (each-within (messageGood (s .n) (s .own)) m (f .before) (f .behind) (ap (every (messageGood (s .n) (s .own))) (sym (f .stands)) ∙ list-messages (s .n) (s .own) (s .sends) good)) in
+      proper (Information number (m .priority) (m .channel) (m .length) (m .place)) (m .other)
+      (pass (not-true _ (g .1 .0)) (pass (le-ltb 7 (m .channel) (leb-true (m .channel) 7 (g .1 .1 .0))) (g .1 .1 .1 .0)))
+      (ltb-true (m .other) (s .n) (g .1 .1 .1 .1 .0))
+      (eqb-false (m .other) (s .own) (not-true _ (g .1 .1 .1 .1 .1 .0)))
+      (found-same _ m (best-found (all (s .sends)) (f .before) (f .behind) m (list-apart (s .n) (s .own) (s .sends) good) (f .stands)))
+
+  send-proper : (number : ℕ) → Proper (sendHead (sight s) number)
+  unfolding sendHead
+  send-proper number = either Proper _ _ _ (λ e. head-proper number e) (λ e. round-proper number Nobody refl)
+
+  grant-proper : (number priority named : ℕ) → (priority ≡ 0 → ⊥) → named < s .n → (named ≡ s .own → ⊥) → Proper (grant (sight s) number priority named)
+  unfolding grant carried
+  grant-proper number priority named a b c =
+      either Proper _ _ _
+      (λ e. proper (Transmit number priority (s .own) named) named (pass (ne-eqb priority 0 a) (pass (lt-leb (s .n) (s .own) member) (lt-ltb named (s .n) b))) b c refl)
+      (λ e. round-proper number Nobody refl)
+
+  returned-proper : (number priority named : ℕ) → named < s .n → Proper (returned (sight s) number priority named)
+  unfolding returned
+  returned-proper number priority named b =
+      first-of Proper _ _ _ (λ e. round-proper number Nobody refl)
+      (λ e. first-of Proper _ _ _ (λ e′. send-proper number) (λ e′. grant-proper number priority named (eqb-false priority 0 e) b (eqb-false named (s .own) e′)))
+
+  -- a token of a bid
+  bid-cleared : (b : Bid) → b .named < s .n → cleared (sight s) b .named < s .n
+  unfolding cleared
+  bid-cleared b h = bid-of (s .n) _ b (ownBid (sight s)) h member
+
+  bid-raised : (b : Bid) → b .named < s .n → raised (sight s) b .named < s .n
+  unfolding raised
+  bid-raised b h = bid-of (s .n) _ (ownBid (sight s)) b member h
+
+  bid-renamed : (to : ℕ) (b : Bid) → b .named < s .n → renamed (sight s) to b .named < s .n
+  unfolding renamed
+  bid-renamed to b h = bid-of (s .n) _ (ownBid (sight s)) b member h
+
+  pass-proper : (number master : ℕ) (failing : Whom) (b : Bid) → master < s .n → memberOrNobody (s .n) failing ≡ true → b .named < s .n
+      → Proper (passOn (sight s) number master failing b)
+  unfolding passOn
+  pass-proper number master failing b x y z =
+      either Proper _ _ _
+      (λ e. token-proper number _ master failing _ x y (bid-raised (cleared (sight s) b) (bid-cleared b z)))
+      (λ e. round-proper number Nobody refl)
+
+  -- the frame sent on a heard one
+  pub reply-proper : (f : Frame) → fit (s .n) f ≡ true → Proper (reply (sight s) f)
+  unfolding reply onToken
+  reply-proper (Token number priority master failing named) e =
+      let t = passes e in
+      let u = passes (t .1) in
+      either Proper _ _ _
+      (λ x. returned-proper (next number) priority named (leb-false (s .n) named (u .0)))
+      (λ x. pass-proper (next number) master failing (record { priority = priority; named = named }) (leb-false (s .n) master (t .0)) (u .1) (leb-false (s .n) named (u .0)))
+  reply-proper (Transmit number priority master named) e = send-proper (next number)
+  reply-proper (Information number priority channel length place) e = round-proper (next number) Nobody refl
+
+  -- the frame sent in place of one that `to` did not acknowledge
+  again-proper : (number to master : ℕ) (b : Bid) → to < s .n → master < s .n → b .named < s .n → Proper (tokenAgain (sight s) number to master b)
+  unfolding tokenAgain
+  again-proper number to master b h x z =
+      let anew : Dispatch = startRound (sight s) number (Member to) in
+      let on : Dispatch = forward (sight s) number master (Member to) (renamed (sight s) to b) in
+      let gone : Bool = not (liveAt (s .live) master) in
+      let anew-proper : Proper anew = round-proper number (Member to) (lt-ltb to (s .n) h) in
+      first-of Proper (eqb master (s .own)) anew (cond gone anew on) (λ e. anew-proper)
+      (λ e. first-of Proper gone anew on (λ e′. anew-proper) (λ e′. token-proper number _ master (Member to) _ x (lt-ltb to (s .n) h) (bid-renamed to b z)))
+
+  pub resend-proper : (to : ℕ) (f : Frame) → to < s .n → fit (s .n) f ≡ true → Proper (resend (sight s) to f)
+  unfolding resend
+  resend-proper to (Token number priority master failing named) h e =
+      let t = passes e in
+      let u = passes (t .1) in
+      again-proper (next number) to master (record { priority = priority; named = named }) h (leb-false (s .n) master (t .0)) (leb-false (s .n) named (u .0))
+  resend-proper to (Transmit number priority master named) h e = round-proper (next number) (Member to) (lt-ltb to (s .n) h)
+  resend-proper to (Information number priority channel length place) h e = round-proper (next number) (Member to) (lt-ltb to (s .n) h)

@@ -1,0 +1,22 @@
+-- What holds of the station's rules, one theorem a file.
+pub mod Refusals
+pub mod NobodyStruck
+pub mod MadeWhole
+pub mod TakeWhole
+pub mod QueueWhole
+pub mod Head
+pub mod Successor
+pub mod FreePlace
+pub mod Striking
+pub mod GivenUp
+pub mod Resent
+pub mod StartWhole
+pub mod TimerWhole
+pub mod FrameWhole
+pub mod LiveSet
+pub mod GoodList
+pub mod Awaited
+pub mod Whole
+pub mod Reached
+pub mod Leaving
+pub mod ToldInOrder

@@ -1,0 +1,69 @@
+-- Start, queue and take strike nobody and give nothing up: the live set and the count stay. Assumes nothing.
+use mathlib.Core.Path.{_≡_, refl}
+use mathlib.Core.Bool.{Bool, true, false}
+use Prim.Native.Nat.{ℕ}
+use lib.Dec.{eqb}
+use Rattle.station.specs.Choose.{pick}
+use Rattle.station.specs.Messages.{none}
+use Rattle.station.specs.Stations.{answered, moved, unless}
+use Rattle.station.specs.Start.{started, startRule}
+use Rattle.station.specs.Queue.{accepted, queueRule}
+use Rattle.station.specs.Take.{taking, takeRule}
+use Rattle.station.specs.declared.list.Message.{Message}
+use Rattle.station.specs.declared.moves.Event.{Event}
+use Rattle.station.specs.declared.frame.Whom.the-variants.{Nobody}
+use Rattle.station.specs.declared.station.Station.{Station}
+use Rattle.station.specs.declared.station.Answer.{Answer}
+
+-- an answer to the station s that strikes nobody
+pub record StrikesNobody (s : Station) (a : Answer) : Type 0 where
+  pub nobody-struck : a .struck ≡ Nobody
+  pub live-kept : a .station .live ≡ s .live
+  pub none-given-up : a .gone ≡ none
+  pub count-kept : a .station .givenup ≡ s .givenup
+
+number-alone : (s : Station) (number : ℕ) → StrikesNobody s (answered s number)
+number-alone s number = record { nobody-struck = refl; live-kept = refl; none-given-up = refl; count-kept = refl }
+
+either : {s : Station} {a b : Answer} (t : Bool) → StrikesNobody s a → StrikesNobody s b → StrikesNobody s (pick t a b)
+unfolding pick
+either true f g = f
+either false f g = g
+
+-- what stands before a call keeps this
+pub nobody-moved : (s : Station) (e : Event) {a : Answer} → StrikesNobody s a → StrikesNobody s (moved s e a)
+unfolding moved
+nobody-moved s e f = either _ f (number-alone s _)
+
+pub nobody-unless : (s : Station) (number : ℕ) {a : Answer} → StrikesNobody s a → StrikesNobody s (unless s number a)
+unfolding unless
+nobody-unless s number f = either _ f (number-alone s _)
+
+started-nobody : (s : Station) → StrikesNobody s (started s)
+unfolding started
+started-nobody s =
+    either (eqb (s .own) 0)
+    (record { nobody-struck = refl; live-kept = refl; none-given-up = refl; count-kept = refl })
+    (record { nobody-struck = refl; live-kept = refl; none-given-up = refl; count-kept = refl })
+
+accepted-nobody : (s : Station) (to priority channel length : ℕ) → StrikesNobody s (accepted s to priority channel length)
+unfolding accepted
+accepted-nobody s to priority channel length = record { nobody-struck = refl; live-kept = refl; none-given-up = refl; count-kept = refl }
+
+taking-nobody : (s : Station) (m : Message) → StrikesNobody s (taking s m)
+unfolding taking
+taking-nobody s m = record { nobody-struck = refl; live-kept = refl; none-given-up = refl; count-kept = refl }
+
+-- ---- the three calls
+
+pub start-strikes-nobody : (s : Station) → StrikesNobody s (startRule s)
+unfolding startRule
+start-strikes-nobody s = nobody-moved s _ (started-nobody s)
+
+pub queue-strikes-nobody : (s : Station) (to priority channel length : ℕ) → StrikesNobody s (queueRule s to priority channel length)
+unfolding queueRule
+queue-strikes-nobody s to priority channel length = nobody-moved s _ (nobody-unless s _ (accepted-nobody s to priority channel length))
+
+pub take-strikes-nobody : (s : Station) (channel room : ℕ) → StrikesNobody s (takeRule s channel room)
+unfolding takeRule
+take-strikes-nobody s channel room = nobody-moved s _ (nobody-unless s _ (taking-nobody s _))
