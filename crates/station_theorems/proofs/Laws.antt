@@ -1,5 +1,4 @@
 -- Laws that the theorems use, one idea a file.
-pub mod Take
 pub mod Tests
 pub mod Kept
 pub mod Carried
