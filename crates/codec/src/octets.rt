@@ -82,7 +82,7 @@ pub fn nonzero(s: &[u8], from: usize, end: usize) -> usize
 }
 
 // A place before which each octet is zero. It goes by eight octets at a time, which take one load.
-pub fn zeros_passed(s: &[u8], from: usize, end: usize) -> usize
+fn zeros_passed(s: &[u8], from: usize, end: usize) -> usize
     requires { ⌜ (from ≤ end) × (end ≤ length (now s)) ⌝ }
     ensures { λ r. ⌜ (r ≤ end) × (firstNonzero (now (s .entry)) from (end - from) ≡ firstNonzero (now (s .entry)) r (end - r)) ⌝ }
 {

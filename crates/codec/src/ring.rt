@@ -61,7 +61,7 @@ pub fn is_member(members: &[u64], address: u64) -> bool
 
 // How many members stand before the first pair with the address, or before an odd last one. It goes
 // by pairs, which halves the tests of the end.
-pub fn pairs_passed(members: &[u64], address: u64) -> usize
+fn pairs_passed(members: &[u64], address: u64) -> usize
     ensures { λ r. ⌜ (r ≤ length (now (members .entry))) × (position (now (members .entry)) address ≡ r + position (drop r (now (members .entry))) address) × (r + 1 < length (now (members .entry)) → isMember (now (members .entry)) address ≡ true) ⌝ }
 {
     let mut i = 0;
