@@ -1,6 +1,6 @@
 // Stations made ready for a case by the calls themselves, and frames for them to hear. Rings have four members and R = 1.
-use station::frame::Frame;
-use station::frame::Whom;
+use parts::frame::Frame;
+use parts::frame::Whom;
 use station::station::Station;
 
 pub fn idle(own: u8) -> Station {
@@ -75,7 +75,7 @@ pub fn told(s: Station, p: u8, from: u8, to: u8) -> Station {
 // Station 1 receives a message from 0, as number `k`, and is acknowledged by its successor.
 pub fn received(s: Station, k: u16, priority: u8, channel: u8) -> Station {
     let t = heard(s, information(k, priority, channel), 0, 1);
-    let next = station::frame::next_number(station::frame::next_number(k));
+    let next = parts::frame::next_number(parts::frame::next_number(k));
     heard(t, token(next, 0, 0, 0), 2, 3)
 }
 

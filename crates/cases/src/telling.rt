@@ -1,10 +1,10 @@
 // A line for each call of a station: what is tried, the station before, the call, and the answer.
 use crate::show;
-use station::frame::Dispatch;
-use station::frame::Frame;
-use station::frame::Whom;
-use station::list::Messages;
-use station::moves::State;
+use parts::frame::Dispatch;
+use parts::frame::Frame;
+use parts::frame::Whom;
+use parts::list::Messages;
+use parts::moves::State;
 use station::station::Answer;
 use station::station::Payload;
 use station::station::Station;
@@ -93,7 +93,7 @@ fn write_awaited(d: Dispatch, from: u8) {
 // A member that is struck.
 fn write_gap(s: Station, p: u8) {
     if p < s.n {
-        if !station::live::is_live(s.live, p as usize) {
+        if !parts::live::is_live(s.live, p as usize) {
             show::field(b" without ", p as u64);
         }
     }

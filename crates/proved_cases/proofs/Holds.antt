@@ -4,7 +4,7 @@ use mathlib.Core.List.{List, map}
 use Prim.Native.Nat.{ℕ}
 use Rattle.codec.specs.Bits.{bits}
 use Rattle.codec.specs.Ring.{addressesOf, badAddress, position, ringRefusal, ringOf, readRing, addressOctets, ringFile}
-use Rattle.station.specs.Choose.{pick}
+use Rattle.parts.specs.Choose.{pick}
 use Rattle.station.specs.Heard.{acknowledges}
 use Rattle.proved_cases.specs.Cases.{Case, cases}
 

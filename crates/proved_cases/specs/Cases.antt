@@ -6,9 +6,9 @@ use lib.ListN.{length, take, replicate}
 use Rattle.codec.specs.declared.ring.Ring.{Ring}
 use Rattle.codec.specs.Ring.{ringFile, readRing}
 use Rattle.codec.specs.Packet.{information, wireOctets}
-use Rattle.station.specs.declared.frame.Whom.the-variants.{Nobody}
-use Rattle.station.specs.declared.frame.Frame.the-variants.{Token}
-use Rattle.station.specs.declared.frame.Dispatch.the-variants.{Sent}
+use Rattle.parts.specs.declared.frame.Whom.the-variants.{Nobody}
+use Rattle.parts.specs.declared.frame.Frame.the-variants.{Token}
+use Rattle.parts.specs.declared.frame.Dispatch.the-variants.{Sent}
 use Rattle.station.specs.Heard.{acknowledges}
 
 pub record Case : Type 0 where

@@ -3,24 +3,24 @@ use mathlib.Core.Bool.{Bool, true, false, not, _||_}
 use mathlib.Core.List.{List, [], _∷_}
 use Prim.Native.Nat.{ℕ, _+_}
 use lib.Dec.{leb, eqb}
-use Rattle.station.specs.Choose.{pick}
+use Rattle.parts.specs.Choose.{pick}
 use Rattle.codec.specs.Order.{firstOf}
-use Rattle.station.specs.Moves.{isIdle, isWaiting}
-use Rattle.station.specs.Messages.{none, all, pushed, lowestFree}
-use Rattle.station.specs.Live.{liveAt}
-use Rattle.station.specs.Frames.{numberOf, next, flight, failingOf}
+use Rattle.parts.specs.Moves.{isIdle, isWaiting}
+use Rattle.parts.specs.Messages.{none, all, pushed, lowestFree}
+use Rattle.parts.specs.Live.{liveAt}
+use Rattle.parts.specs.Frames.{numberOf, next, flight, failingOf}
 use Rattle.station.specs.Stations.{stateOf, awaitedOf, withReceives, withLost, quiet, sending, addUpTo, alone, moved, unless}
 use Rattle.station.specs.Round.{sight, reply}
 use Rattle.station.specs.Strike.{newly, strike, nothingGone, giveUpTo, leave, told, stopped}
-use Rattle.station.specs.declared.moves.State.the-variants.{Idle, Alone, Excluded}
-use Rattle.station.specs.declared.moves.Event.the-variants.{Heard}
-use Rattle.station.specs.declared.list.Message.{Message}
-use Rattle.station.specs.declared.frame.Whom.{Whom}
-use Rattle.station.specs.declared.frame.Whom.the-variants.{Nobody, Member}
-use Rattle.station.specs.declared.frame.Frame.{Frame}
-use Rattle.station.specs.declared.frame.Frame.the-variants.{Token, Transmit, Information}
-use Rattle.station.specs.declared.frame.Dispatch.{Dispatch}
-use Rattle.station.specs.declared.frame.Dispatch.the-variants.{Nothing, Sent}
+use Rattle.parts.specs.declared.moves.State.the-variants.{Idle, Alone, Excluded}
+use Rattle.parts.specs.declared.moves.Event.the-variants.{Heard}
+use Rattle.parts.specs.declared.list.Message.{Message}
+use Rattle.parts.specs.declared.frame.Whom.{Whom}
+use Rattle.parts.specs.declared.frame.Whom.the-variants.{Nobody, Member}
+use Rattle.parts.specs.declared.frame.Frame.{Frame}
+use Rattle.parts.specs.declared.frame.Frame.the-variants.{Token, Transmit, Information}
+use Rattle.parts.specs.declared.frame.Dispatch.{Dispatch}
+use Rattle.parts.specs.declared.frame.Dispatch.the-variants.{Nothing, Sent}
 use Rattle.station.specs.declared.station.Handled.{Handled}
 use Rattle.station.specs.declared.station.Handled.the-variants.{Never, Last}
 use Rattle.station.specs.declared.station.Station.{Station}

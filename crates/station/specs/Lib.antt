@@ -1,8 +1,3 @@
-pub mod Choose
-pub mod Moves
-pub mod Messages
-pub mod Live
-pub mod Frames
 pub mod Stations
 pub mod Round
 pub mod Strike
@@ -11,4 +6,3 @@ pub mod Heard
 pub mod Timer
 pub mod Queue
 pub mod Take
-pub mod Whole

@@ -3,15 +3,15 @@ use mathlib.Core.Bool.{Bool, not}
 use mathlib.Core.List.{List, [], _∷_}
 use Prim.Native.Nat.{ℕ}
 use lib.Dec.{ltb, leb, eqb}
-use Rattle.station.specs.Choose.{pick}
+use Rattle.parts.specs.Choose.{pick}
 use Rattle.codec.specs.Order.{firstOf}
-use Rattle.station.specs.Messages.{none, all, pushed, lowestFree}
-use Rattle.station.specs.Live.{liveAt}
+use Rattle.parts.specs.Messages.{none, all, pushed, lowestFree}
+use Rattle.parts.specs.Live.{liveAt}
 use Rattle.station.specs.Stations.{withSends, moved, unless}
-use Rattle.station.specs.declared.moves.Event.the-variants.{Queue}
-use Rattle.station.specs.declared.list.Message.{Message}
-use Rattle.station.specs.declared.frame.Whom.the-variants.{Nobody}
-use Rattle.station.specs.declared.frame.Dispatch.the-variants.{Nothing}
+use Rattle.parts.specs.declared.moves.Event.the-variants.{Queue}
+use Rattle.parts.specs.declared.list.Message.{Message}
+use Rattle.parts.specs.declared.frame.Whom.the-variants.{Nobody}
+use Rattle.parts.specs.declared.frame.Dispatch.the-variants.{Nothing}
 use Rattle.station.specs.declared.station.Station.{Station}
 use Rattle.station.specs.declared.station.Payload.the-variants.{Of}
 use Rattle.station.specs.declared.station.Answer.{Answer}

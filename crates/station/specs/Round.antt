@@ -3,20 +3,20 @@ use mathlib.Core.Bool.{Bool, not}
 use mathlib.Core.List.{List, [], _∷_}
 use Prim.Native.Nat.{ℕ}
 use lib.Dec.{ltb, eqb}
-use Rattle.station.specs.Choose.{pick}
+use Rattle.parts.specs.Choose.{pick}
 use Rattle.codec.specs.Order.{firstOf}
-use Rattle.station.specs.Live.{liveAt, successor}
-use Rattle.station.specs.Frames.{next}
+use Rattle.parts.specs.Live.{liveAt, successor}
+use Rattle.parts.specs.Frames.{next}
 use Rattle.station.specs.Stations.{head}
-use Rattle.station.specs.declared.live.Live.{Live}
-use Rattle.station.specs.declared.list.Message.{Message}
-use Rattle.station.specs.declared.list.Best.{Best}
-use Rattle.station.specs.declared.frame.Whom.{Whom}
-use Rattle.station.specs.declared.frame.Whom.the-variants.{Nobody, Member}
-use Rattle.station.specs.declared.frame.Frame.{Frame}
-use Rattle.station.specs.declared.frame.Frame.the-variants.{Token, Transmit, Information}
-use Rattle.station.specs.declared.frame.Dispatch.{Dispatch}
-use Rattle.station.specs.declared.frame.Dispatch.the-variants.{Nothing, Sent}
+use Rattle.parts.specs.declared.live.Live.{Live}
+use Rattle.parts.specs.declared.list.Message.{Message}
+use Rattle.parts.specs.declared.list.Best.{Best}
+use Rattle.parts.specs.declared.frame.Whom.{Whom}
+use Rattle.parts.specs.declared.frame.Whom.the-variants.{Nobody, Member}
+use Rattle.parts.specs.declared.frame.Frame.{Frame}
+use Rattle.parts.specs.declared.frame.Frame.the-variants.{Token, Transmit, Information}
+use Rattle.parts.specs.declared.frame.Dispatch.{Dispatch}
+use Rattle.parts.specs.declared.frame.Dispatch.the-variants.{Nothing, Sent}
 use Rattle.station.specs.declared.station.Station.{Station}
 use Rattle.station.specs.declared.rules.round.Sight.{Sight}
 use Rattle.station.specs.declared.rules.round.Bid.{Bid}

@@ -1,18 +1,18 @@
 -- "Start. Station 0 starts a round with frame number 0 and waits. Others become Idle."
 use Prim.Native.Nat.{ℕ}
 use lib.Dec.{eqb}
-use Rattle.station.specs.Choose.{pick}
-use Rattle.station.specs.Frames.{next}
+use Rattle.parts.specs.Choose.{pick}
+use Rattle.parts.specs.Frames.{next}
 use Rattle.station.specs.Stations.{answered, moved, quiet, sending}
 use Rattle.station.specs.Round.{sight, startRound}
-use Rattle.station.specs.declared.moves.State.the-variants.{Idle}
-use Rattle.station.specs.declared.moves.Event.the-variants.{Start}
-use Rattle.station.specs.declared.frame.Whom.the-variants.{Nobody}
-use Rattle.station.specs.declared.frame.Dispatch.{Dispatch}
+use Rattle.parts.specs.declared.moves.State.the-variants.{Idle}
+use Rattle.parts.specs.declared.moves.Event.the-variants.{Start}
+use Rattle.parts.specs.declared.frame.Whom.the-variants.{Nobody}
+use Rattle.parts.specs.declared.frame.Dispatch.{Dispatch}
 use Rattle.station.specs.declared.station.Station.{Station}
 use Rattle.station.specs.declared.station.Payload.the-variants.{NoPayload}
 use Rattle.station.specs.declared.station.Answer.{Answer}
-use Rattle.station.specs.Messages.{none}
+use Rattle.parts.specs.Messages.{none}
 
 -- a frame is sent and nobody is told
 abbrev pub sentFirst : Station → Dispatch → Answer

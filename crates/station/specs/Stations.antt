@@ -3,24 +3,24 @@ use mathlib.Core.Bool.{Bool, true, false}
 use mathlib.Core.List.{List}
 use Prim.Native.Nat.{ℕ, _+_, _-_}
 use lib.Dec.{leb, eqb}
-use Rattle.station.specs.Choose.{pick}
-use Rattle.station.specs.Moves.{moveOf, runs}
-use Rattle.station.specs.Messages.{none, all, best}
-use Rattle.station.specs.Live.{full, successor}
-use Rattle.station.specs.Frames.{flight}
-use Rattle.station.specs.declared.moves.State.{State}
-use Rattle.station.specs.declared.moves.State.the-variants.{Offline, Idle, Waiting, Alone, Excluded}
-use Rattle.station.specs.declared.moves.Event.{Event}
-use Rattle.station.specs.declared.live.Live.{Live}
-use Rattle.station.specs.declared.list.Message.{Message}
-use Rattle.station.specs.declared.list.Messages.{Messages}
-use Rattle.station.specs.declared.list.Best.{Best}
-use Rattle.station.specs.declared.list.Which.the-variants.{AnyWaiting}
-use Rattle.station.specs.declared.frame.Whom.{Whom}
-use Rattle.station.specs.declared.frame.Whom.the-variants.{Nobody, Member}
-use Rattle.station.specs.declared.frame.Frame.{Frame}
-use Rattle.station.specs.declared.frame.Dispatch.{Dispatch}
-use Rattle.station.specs.declared.frame.Dispatch.the-variants.{Nothing, Sent}
+use Rattle.parts.specs.Choose.{pick}
+use Rattle.parts.specs.Moves.{moveOf, runs}
+use Rattle.parts.specs.Messages.{none, all, best}
+use Rattle.parts.specs.Live.{full, successor}
+use Rattle.parts.specs.Frames.{flight}
+use Rattle.parts.specs.declared.moves.State.{State}
+use Rattle.parts.specs.declared.moves.State.the-variants.{Offline, Idle, Waiting, Alone, Excluded}
+use Rattle.parts.specs.declared.moves.Event.{Event}
+use Rattle.parts.specs.declared.live.Live.{Live}
+use Rattle.parts.specs.declared.list.Message.{Message}
+use Rattle.parts.specs.declared.list.Messages.{Messages}
+use Rattle.parts.specs.declared.list.Best.{Best}
+use Rattle.parts.specs.declared.list.Which.the-variants.{AnyWaiting}
+use Rattle.parts.specs.declared.frame.Whom.{Whom}
+use Rattle.parts.specs.declared.frame.Whom.the-variants.{Nobody, Member}
+use Rattle.parts.specs.declared.frame.Frame.{Frame}
+use Rattle.parts.specs.declared.frame.Dispatch.{Dispatch}
+use Rattle.parts.specs.declared.frame.Dispatch.the-variants.{Nothing, Sent}
 use Rattle.station.specs.declared.station.Handled.{Handled}
 use Rattle.station.specs.declared.station.Handled.the-variants.{Never, Last}
 use Rattle.station.specs.declared.station.Turn.{Turn}

@@ -3,17 +3,17 @@ use mathlib.Core.Bool.{Bool, not}
 use mathlib.Core.List.{List, [], _∷_}
 use Prim.Native.Nat.{ℕ}
 use lib.Dec.{ltb}
-use Rattle.station.specs.Choose.{pick}
+use Rattle.parts.specs.Choose.{pick}
 use Rattle.codec.specs.Order.{firstOf}
-use Rattle.station.specs.Messages.{none, best, splitBy}
+use Rattle.parts.specs.Messages.{none, best, splitBy}
 use Rattle.station.specs.Stations.{withReceives, moved, unless}
-use Rattle.station.specs.declared.moves.Event.the-variants.{Take}
-use Rattle.station.specs.declared.list.Message.{Message}
-use Rattle.station.specs.declared.list.Best.{Best}
-use Rattle.station.specs.declared.list.Parts.{Parts}
-use Rattle.station.specs.declared.list.Which.the-variants.{HasPlace, OnChannel}
-use Rattle.station.specs.declared.frame.Whom.the-variants.{Nobody}
-use Rattle.station.specs.declared.frame.Dispatch.the-variants.{Nothing}
+use Rattle.parts.specs.declared.moves.Event.the-variants.{Take}
+use Rattle.parts.specs.declared.list.Message.{Message}
+use Rattle.parts.specs.declared.list.Best.{Best}
+use Rattle.parts.specs.declared.list.Parts.{Parts}
+use Rattle.parts.specs.declared.list.Which.the-variants.{HasPlace, OnChannel}
+use Rattle.parts.specs.declared.frame.Whom.the-variants.{Nobody}
+use Rattle.parts.specs.declared.frame.Dispatch.the-variants.{Nothing}
 use Rattle.station.specs.declared.station.Station.{Station}
 use Rattle.station.specs.declared.station.Payload.the-variants.{Of}
 use Rattle.station.specs.declared.station.Answer.{Answer}

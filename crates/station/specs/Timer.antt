@@ -3,22 +3,22 @@ use mathlib.Core.Bool.{Bool, not}
 use mathlib.Core.List.{List, [], _∷_}
 use Prim.Native.Nat.{ℕ, _+_}
 use lib.Dec.{ltb, eqb}
-use Rattle.station.specs.Choose.{pick}
+use Rattle.parts.specs.Choose.{pick}
 use Rattle.codec.specs.Order.{firstOf}
-use Rattle.station.specs.Messages.{none}
-use Rattle.station.specs.Live.{liveAt}
-use Rattle.station.specs.Frames.{numberOf, next}
+use Rattle.parts.specs.Messages.{none}
+use Rattle.parts.specs.Live.{liveAt}
+use Rattle.parts.specs.Frames.{numberOf, next}
 use Rattle.station.specs.Stations.{withTurn, awaitedOf, quiet, sending, alone, answered, moved}
 use Rattle.station.specs.Round.{sight, startRound, ownBid, forward}
 use Rattle.station.specs.Strike.{newly, strike, giveUpTo, giveUpFlight, told}
-use Rattle.station.specs.declared.moves.State.the-variants.{Idle, Alone}
-use Rattle.station.specs.declared.moves.Event.the-variants.{Timer}
-use Rattle.station.specs.declared.frame.Whom.{Whom}
-use Rattle.station.specs.declared.frame.Whom.the-variants.{Nobody, Member}
-use Rattle.station.specs.declared.frame.Frame.{Frame}
-use Rattle.station.specs.declared.frame.Frame.the-variants.{Token, Transmit, Information}
-use Rattle.station.specs.declared.frame.Dispatch.{Dispatch}
-use Rattle.station.specs.declared.frame.Dispatch.the-variants.{Nothing, Sent}
+use Rattle.parts.specs.declared.moves.State.the-variants.{Idle, Alone}
+use Rattle.parts.specs.declared.moves.Event.the-variants.{Timer}
+use Rattle.parts.specs.declared.frame.Whom.{Whom}
+use Rattle.parts.specs.declared.frame.Whom.the-variants.{Nobody, Member}
+use Rattle.parts.specs.declared.frame.Frame.{Frame}
+use Rattle.parts.specs.declared.frame.Frame.the-variants.{Token, Transmit, Information}
+use Rattle.parts.specs.declared.frame.Dispatch.{Dispatch}
+use Rattle.parts.specs.declared.frame.Dispatch.the-variants.{Nothing, Sent}
 use Rattle.station.specs.declared.station.Station.{Station}
 use Rattle.station.specs.declared.station.Payload.the-variants.{NoPayload}
 use Rattle.station.specs.declared.station.Answer.{Answer}

@@ -6,4 +6,3 @@ pub mod start;
 pub mod strike;
 pub mod take;
 pub mod timer;
-pub mod whole;

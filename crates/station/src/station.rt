@@ -13,12 +13,12 @@ ghost use Rattle.station.specs.Stations.{
   answered,
   alone,
 };
-use crate::frame::Dispatch;
-use crate::frame::Whom;
-use crate::list::Message;
-use crate::list::Messages;
-use crate::live::Live;
-use crate::moves::State;
+use parts::frame::Dispatch;
+use parts::frame::Whom;
+use parts::list::Message;
+use parts::list::Messages;
+use parts::live::Live;
+use parts::moves::State;
 
 // The last handled number, or none.
 pub enum Handled {
@@ -150,7 +150,7 @@ pub fn count_given_up(s: Station, k: usize) -> Station
 pub fn number_alone(s: Station, number: u32) -> Answer
     ensures { λ r. ⌜ r ≡ answered s number ⌝ }
 {
-    let gone = crate::list::empty();
+    let gone = parts::list::empty();
     Answer {
         station: s,
         number,
@@ -165,7 +165,7 @@ pub fn number_alone(s: Station, number: u32) -> Answer
 pub fn is_alone(s: Station) -> bool
     ensures { λ r. ⌜ r ≡ alone s ⌝ }
 {
-    crate::live::next_live(s.live, s.n, s.own) == s.own
+    parts::live::next_live(s.live, s.n, s.own) == s.own
 }
 
 impl Station {
@@ -173,9 +173,9 @@ impl Station {
     pub fn new(n: u8, limit: u8, own: u8) -> Station
         ensures { λ r. ⌜ r ≡ made n limit own ⌝ }
     {
-        let live = crate::live::all_members(n);
-        let sends = crate::list::empty();
-        let receives = crate::list::empty();
+        let live = parts::live::all_members(n);
+        let sends = parts::list::empty();
+        let receives = parts::list::empty();
         let turn = Turn {
             state: State::Offline,
             awaited: Dispatch::Nothing,

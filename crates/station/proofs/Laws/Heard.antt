@@ -3,28 +3,28 @@ use mathlib.Core.Path.{_≡_, refl, sym, ap, _∙_}
 use mathlib.Core.Bool.{true, false}
 use Prim.Native.Nat.{ℕ, _<_, _≤_}
 use borrow.Author.Tests.{le-leb, lt-leb, eq-eqb, ne-eqb}
-use Rattle.station.specs.Moves.{moveOf, runs}
-use Rattle.station.specs.Messages.{none, pushed}
-use Rattle.station.specs.Frames.{numberOf, flight, failingOf}
+use Rattle.parts.specs.Moves.{moveOf, runs}
+use Rattle.parts.specs.Messages.{none, pushed}
+use Rattle.parts.specs.Frames.{numberOf, flight, failingOf}
 use Rattle.station.specs.Stations.{stateOf, awaitedOf, withReceives, withLost, addUpTo, alone}
 use Rattle.station.specs.Round.{sight, reply}
 use Rattle.station.specs.Strike.{newly, strike, giveUpTo, leave, told, stopped}
 use Rattle.station.specs.Heard.{landed, acknowledge, strikeOther, strikeHeard, failed, nothingMore, receive, stored, sendOn, handle, silent, respond, heard, checks, frameRule}
-use Rattle.station.specs.declared.moves.State.the-variants.{Alone, Excluded}
-use Rattle.station.specs.declared.moves.Event.the-variants.{Heard}
-use Rattle.station.specs.declared.list.Message.{Message}
-use Rattle.station.specs.declared.list.Messages.{Messages}
-use Rattle.station.specs.declared.list.Flight.{Flight}
-use Rattle.station.specs.declared.frame.Whom.{Whom}
-use Rattle.station.specs.declared.frame.Frame.{Frame}
-use Rattle.station.specs.declared.frame.Dispatch.{Dispatch}
+use Rattle.parts.specs.declared.moves.State.the-variants.{Alone, Excluded}
+use Rattle.parts.specs.declared.moves.Event.the-variants.{Heard}
+use Rattle.parts.specs.declared.list.Message.{Message}
+use Rattle.parts.specs.declared.list.Messages.{Messages}
+use Rattle.parts.specs.declared.list.Flight.{Flight}
+use Rattle.parts.specs.declared.frame.Whom.{Whom}
+use Rattle.parts.specs.declared.frame.Frame.{Frame}
+use Rattle.parts.specs.declared.frame.Dispatch.{Dispatch}
 use Rattle.station.specs.declared.station.Station.{Station}
 use Rattle.station.specs.declared.station.Payload.the-variants.{NoPayload, Of}
 use Rattle.station.specs.declared.rules.round.Sight.{Sight}
 use Rattle.station.specs.declared.rules.strike.Loss.{Loss}
 use Rattle.station.specs.declared.rules.strike.Struck.{Struck}
 use Rattle.station.specs.declared.rules.heard.Stored.{Stored}
-use Rattle.station.proofs.Laws.Choose.{pick-true, pick-false}
+use Rattle.parts.proofs.Laws.Choose.{pick-true, pick-false}
 use Rattle.station.proofs.Laws.Moved.{moved-runs, unless-passes}
 
 -- ---- a message in flight leaves the list

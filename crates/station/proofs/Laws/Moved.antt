@@ -2,12 +2,12 @@
 use mathlib.Core.Path.{_≡_, sym, _∙_}
 use Prim.Native.Nat.{ℕ}
 use borrow.Author.Tests.{eq-eqb, ne-eqb}
-use Rattle.station.specs.Moves.{moveOf, runs}
+use Rattle.parts.specs.Moves.{moveOf, runs}
 use Rattle.station.specs.Stations.{stateOf, answered, moved, unless}
-use Rattle.station.specs.declared.moves.Event.{Event}
+use Rattle.parts.specs.declared.moves.Event.{Event}
 use Rattle.station.specs.declared.station.Station.{Station}
 use Rattle.station.specs.declared.station.Answer.{Answer}
-use Rattle.station.proofs.Laws.Choose.{pick-true, pick-false}
+use Rattle.parts.proofs.Laws.Choose.{pick-true, pick-false}
 
 module _ (s : Station) (e : Event) (a : Answer) {m : ℕ} (looked : m ≡ moveOf (stateOf s) e) where
   -- a call that runs does what it does

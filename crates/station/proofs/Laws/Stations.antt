@@ -2,18 +2,18 @@
 use mathlib.Core.Path.{_≡_}
 use Prim.Native.Nat.{ℕ, _+_, _-_, _<_, _≤_}
 use borrow.Author.Tests.{le-leb, lt-leb}
-use Rattle.station.specs.declared.live.Live.{Live}
-use Rattle.station.specs.declared.list.Messages.{Messages}
-use Rattle.station.specs.declared.moves.State.the-variants.{Offline}
-use Rattle.station.specs.declared.frame.Dispatch.the-variants.{Nothing}
-use Rattle.station.specs.declared.frame.Whom.the-variants.{Nobody}
+use Rattle.parts.specs.declared.live.Live.{Live}
+use Rattle.parts.specs.declared.list.Messages.{Messages}
+use Rattle.parts.specs.declared.moves.State.the-variants.{Offline}
+use Rattle.parts.specs.declared.frame.Dispatch.the-variants.{Nothing}
+use Rattle.parts.specs.declared.frame.Whom.the-variants.{Nobody}
 use Rattle.station.specs.declared.station.Handled.the-variants.{Never}
 use Rattle.station.specs.declared.station.Station.{Station}
 use Rattle.station.specs.declared.station.Payload.the-variants.{NoPayload}
-use Rattle.station.specs.Messages.{none}
-use Rattle.station.specs.Live.{full}
+use Rattle.parts.specs.Messages.{none}
+use Rattle.parts.specs.Live.{full}
 use Rattle.station.specs.Stations.{made, addUpTo, answered}
-use Rattle.station.proofs.Laws.Choose.{pick-true, pick-false}
+use Rattle.parts.proofs.Laws.Choose.{pick-true, pick-false}
 
 pub add-inside : (c k : ℕ) → k ≤ 4294967295 - c → addUpTo c k ≡ c + k
 unfolding addUpTo

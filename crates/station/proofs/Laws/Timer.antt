@@ -3,25 +3,25 @@ use mathlib.Core.Path.{_≡_, refl, sym, ap, _∙_}
 use mathlib.Core.Bool.{true, false, not}
 use Prim.Native.Nat.{ℕ, _<_, _≤_}
 use borrow.Author.Tests.{lt-ltb, le-ltb, eq-eqb, ne-eqb}
-use Rattle.station.specs.Moves.{moveOf}
-use Rattle.station.specs.Live.{liveAt}
+use Rattle.parts.specs.Moves.{moveOf}
+use Rattle.parts.specs.Live.{liveAt}
 use Rattle.station.specs.Stations.{stateOf, awaitedOf, quiet, alone}
 use Rattle.station.specs.Round.{sight, startRound, forward}
 use Rattle.station.specs.Strike.{newly, strike, giveUpTo, giveUpFlight, told}
 use Rattle.station.specs.Timer.{again, renamed, tokenAgain, resend, unanswered, leftAlone, goesOn, afterStrike, silence, onTimer, timerRule}
-use Rattle.station.specs.declared.moves.State.the-variants.{Idle, Waiting}
-use Rattle.station.specs.declared.moves.Event.the-variants.{Timer}
-use Rattle.station.specs.declared.frame.Whom.{Whom}
-use Rattle.station.specs.declared.frame.Whom.the-variants.{Member}
-use Rattle.station.specs.declared.frame.Frame.{Frame}
-use Rattle.station.specs.declared.frame.Dispatch.{Dispatch}
-use Rattle.station.specs.declared.frame.Dispatch.the-variants.{Sent}
+use Rattle.parts.specs.declared.moves.State.the-variants.{Idle, Waiting}
+use Rattle.parts.specs.declared.moves.Event.the-variants.{Timer}
+use Rattle.parts.specs.declared.frame.Whom.{Whom}
+use Rattle.parts.specs.declared.frame.Whom.the-variants.{Member}
+use Rattle.parts.specs.declared.frame.Frame.{Frame}
+use Rattle.parts.specs.declared.frame.Dispatch.{Dispatch}
+use Rattle.parts.specs.declared.frame.Dispatch.the-variants.{Sent}
 use Rattle.station.specs.declared.station.Station.{Station}
 use Rattle.station.specs.declared.rules.round.Sight.{Sight}
 use Rattle.station.specs.declared.rules.round.Bid.{Bid}
 use Rattle.station.specs.declared.rules.strike.Loss.{Loss}
 use Rattle.station.specs.declared.rules.strike.Struck.{Struck}
-use Rattle.station.proofs.Laws.Choose.{pick-true, pick-false}
+use Rattle.parts.proofs.Laws.Choose.{pick-true, pick-false}
 use Rattle.station.proofs.Laws.Moved.{moved-runs}
 
 -- ---- a token instead of a token

@@ -1,7 +1,7 @@
 // A heard frame, in five steps.
 ghost use mathlib.Core.Path.{_≡_};
-ghost use Rattle.station.specs.Moves.{isIdle, isWaiting};
-ghost use Rattle.station.specs.Frames.{failingOf};
+ghost use Rattle.parts.specs.Moves.{isIdle, isWaiting};
+ghost use Rattle.parts.specs.Frames.{failingOf};
 ghost use Rattle.station.specs.Heard.{
   heardRefusal,
   checks,
@@ -24,18 +24,18 @@ ghost use Rattle.station.specs.Heard.{
   heard,
   frameRule,
 };
-use crate::frame::Dispatch;
-use crate::frame::Frame;
-use crate::frame::Whom;
-use crate::list::Message;
-use crate::moves::Event;
-use crate::moves::State;
 use crate::rules::strike::Loss;
 use crate::rules::strike::Struck;
 use crate::station::Answer;
 use crate::station::Handled;
 use crate::station::Payload;
 use crate::station::Station;
+use parts::frame::Dispatch;
+use parts::frame::Frame;
+use parts::frame::Whom;
+use parts::list::Message;
+use parts::moves::Event;
+use parts::moves::State;
 
 // A station after storing a heard frame, and the message that was stored.
 pub struct Stored {
@@ -68,7 +68,7 @@ pub fn heard_refusal(n: u8, own: u8, alive: bool, from: u8, to: u8) -> u32
 pub fn check_heard(s: Station, from: u8, to: u8) -> u32
     ensures { λ r. ⌜ r ≡ checks s from to ⌝ }
 {
-    let alive = crate::live::is_live(s.live, from as usize);
+    let alive = parts::live::is_live(s.live, from as usize);
     heard_refusal(s.n, s.own, alive, from, to)
 }
 
@@ -80,8 +80,8 @@ pub fn acks(awaited: Dispatch, from: u8, k: u16) -> bool
         Dispatch::Nothing => false,
         Dispatch::Sent { frame, to } => {
             if from == to {
-                let own = crate::frame::number_of(frame);
-                let next = crate::frame::next_number(own);
+                let own = parts::frame::number_of(frame);
+                let next = parts::frame::next_number(own);
                 k == next
             } else {
                 false
@@ -95,7 +95,7 @@ pub fn is_acknowledged(s: Station, from: u8, k: u16) -> bool
 {
     let turn = s.turn;
     let state = turn.state;
-    if crate::moves::is_waiting(state) {
+    if parts::moves::is_waiting(state) {
         let awaited = turn.awaited;
         return acks(awaited, from, k);
     }
@@ -108,7 +108,7 @@ pub fn land(s: Station) -> Station
 {
     let turn = s.turn;
     let awaited = turn.awaited;
-    let f = crate::frame::flight_of(awaited);
+    let f = parts::frame::flight_of(awaited);
     if f.on {
         return crate::rules::strike::take_out(s, f.place);
     }
@@ -143,7 +143,7 @@ pub fn strike_heard(s: Station, p: u8) -> Struck
     let w = crate::rules::strike::newly_struck(s.live, p);
     if p == s.own {
         let station = crate::rules::strike::strike_out(s, p);
-        let gone = crate::list::empty();
+        let gone = parts::list::empty();
         let l = Loss { station, gone };
         return crate::rules::strike::stop(l, w, State::Excluded);
     }
@@ -182,7 +182,7 @@ pub fn fail(s: Station, w: Whom) -> Struck
 {
     match w {
         Whom::Nobody => {
-            let gone = crate::list::empty();
+            let gone = parts::list::empty();
             Struck {
                 station: s,
                 struck: Whom::Nobody,
@@ -215,7 +215,7 @@ pub fn nothing_more(s: Station, to: u8, k: u16) -> bool
         return true;
     }
     let state = turn.state;
-    if !crate::moves::is_idle(state) {
+    if !parts::moves::is_idle(state) {
         return true;
     }
     false
@@ -235,7 +235,7 @@ pub fn receive_it(s: Station, m: Message) -> Stored
             payload: Payload::NoPayload,
         };
     }
-    let more = crate::list::push(l, m);
+    let more = parts::list::push(l, m);
     let station = crate::station::with_receives(s, more);
     Stored {
         station,
@@ -246,7 +246,7 @@ pub fn receive_it(s: Station, m: Message) -> Stored
 pub fn heard_message(s: Station, from: u8, priority: u8, channel: u8, length: u16) -> Message
     ensures { λ r. ⌜ r ≡ heardMessage s from priority channel length ⌝ }
 {
-    let place = crate::list::lowest_free(s.receives);
+    let place = parts::list::lowest_free(s.receives);
     Message {
         other: from,
         priority,
@@ -314,7 +314,7 @@ pub fn send_on(k: Struck, t: Stored, number: u16, d: Dispatch) -> Answer
 pub fn handle_it(k: Struck, t: Stored, f: Frame) -> Answer
     ensures { λ r. ⌜ r ≡ handle k t f ⌝ }
 {
-    let number = crate::frame::number_of(f);
+    let number = parts::frame::number_of(f);
     let v = crate::rules::round::look(t.station);
     let d = crate::rules::round::reply_to(v, f);
     send_on(k, t, number, d)
@@ -339,7 +339,7 @@ pub fn stay_silent(k: Struck) -> Answer
 pub fn respond_to(k: Struck, from: u8, to: u8, f: Frame) -> Answer
     ensures { λ r. ⌜ r ≡ respond k from to f ⌝ }
 {
-    let number = crate::frame::number_of(f);
+    let number = parts::frame::number_of(f);
     let s = k.station;
     if nothing_more(s, to, number) {
         return stay_silent(k);
@@ -352,7 +352,7 @@ pub fn respond_to(k: Struck, from: u8, to: u8, f: Frame) -> Answer
 pub fn hear(s: Station, f: Frame, from: u8, to: u8) -> Answer
     ensures { λ r. ⌜ r ≡ heard s f from to ⌝ }
 {
-    let number = crate::frame::number_of(f);
+    let number = parts::frame::number_of(f);
     let t = take_ack(s, from, number);
     let w = failing_of(f);
     let k = fail(t, w);
@@ -366,8 +366,8 @@ impl Station {
     {
         let turn = self.turn;
         let state = turn.state;
-        let m = crate::moves::move_of(state, Event::Heard);
-        if m != crate::moves::RUN {
+        let m = parts::moves::move_of(state, Event::Heard);
+        if m != parts::moves::RUN {
             return crate::station::number_alone(self, m);
         }
         let k = check_heard(self, from, to);

@@ -2,13 +2,13 @@
 ghost use mathlib.Core.Path.{_≡_};
 ghost use Prim.Native.Nat.{_≤_};
 ghost use Rattle.station.specs.Queue.{queueRefusal, queueNumber, joining, accepted, queueRule};
-use crate::frame::Dispatch;
-use crate::frame::Whom;
-use crate::list::Message;
-use crate::moves::Event;
 use crate::station::Answer;
 use crate::station::Payload;
 use crate::station::Station;
+use parts::frame::Dispatch;
+use parts::frame::Whom;
+use parts::list::Message;
+use parts::moves::Event;
 
 // The checks in their order, over plain values.
 pub fn queue_refusal(
@@ -53,7 +53,7 @@ pub fn queue_refusal(
 pub fn check_queue(s: Station, to: usize, priority: usize, channel: usize, length: usize) -> u32
     ensures { λ r. ⌜ r ≡ queueNumber s to priority channel length ⌝ }
 {
-    let live = crate::live::is_live(s.live, to);
+    let live = parts::live::is_live(s.live, to);
     let l = s.sends;
     queue_refusal(s.n, s.own, live, l.len, to, priority, channel, length)
 }
@@ -61,9 +61,9 @@ pub fn check_queue(s: Station, to: usize, priority: usize, channel: usize, lengt
 pub fn join(s: Station, m: Message) -> Answer
     ensures { λ r. ⌜ r ≡ joining s m ⌝ }
 {
-    let more = crate::list::push(s.sends, m);
+    let more = parts::list::push(s.sends, m);
     let station = crate::station::with_sends(s, more);
-    let gone = crate::list::empty();
+    let gone = parts::list::empty();
     Answer {
         station,
         number: 0,
@@ -81,7 +81,7 @@ pub fn accept(s: Station, to: usize, priority: usize, channel: usize, length: us
     requires { ⌜ length ≤ 1492 ⌝ }
     ensures { λ r. ⌜ r ≡ accepted s to priority channel length ⌝ }
 {
-    let place = crate::list::lowest_free(s.sends);
+    let place = parts::list::lowest_free(s.sends);
     let m = Message {
         other: to as u8,
         priority: priority as u8,
@@ -99,8 +99,8 @@ impl Station {
     {
         let turn = self.turn;
         let state = turn.state;
-        let m = crate::moves::move_of(state, Event::Queue);
-        if m != crate::moves::RUN {
+        let m = parts::moves::move_of(state, Event::Queue);
+        if m != parts::moves::RUN {
             return crate::station::number_alone(self, m);
         }
         let k = check_queue(self, to, priority, channel, length);

@@ -16,13 +16,13 @@ ghost use Rattle.station.specs.Round.{
   onToken,
   reply,
 };
-use crate::frame::Dispatch;
-use crate::frame::Frame;
-use crate::frame::Whom;
-use crate::list::Best;
-use crate::list::Which;
-use crate::live::Live;
 use crate::station::Station;
+use parts::frame::Dispatch;
+use parts::frame::Frame;
+use parts::frame::Whom;
+use parts::list::Best;
+use parts::list::Which;
+use parts::live::Live;
 
 // What a station looks at when it composes a frame.
 pub struct Sight {
@@ -44,16 +44,16 @@ pub fn head_of(s: Station) -> Best
 {
     let turn = s.turn;
     let awaited = turn.awaited;
-    let flight = crate::frame::flight_of(awaited);
+    let flight = parts::frame::flight_of(awaited);
     let w = Which::AnyWaiting(flight);
-    crate::list::choose(s.sends, w)
+    parts::list::choose(s.sends, w)
 }
 
 pub fn look(s: Station) -> Sight
     ensures { λ r. ⌜ r ≡ sight s ⌝ }
 {
     let live = s.live;
-    let next = crate::live::next_live(live, s.n, s.own);
+    let next = parts::live::next_live(live, s.n, s.own);
     let head = head_of(s);
     Sight {
         own: s.own,
@@ -106,7 +106,7 @@ pub fn send_head(v: Sight, number: u16) -> Dispatch
 pub fn grant_to(v: Sight, number: u16, priority: u8, named: u8) -> Dispatch
     ensures { λ r. ⌜ r ≡ grant v number priority named ⌝ }
 {
-    if crate::live::is_live(v.live, named as usize) {
+    if parts::live::is_live(v.live, named as usize) {
         let frame = Frame::Transmit {
             number,
             priority,
@@ -144,7 +144,7 @@ pub fn own_bid(v: Sight) -> Bid
 pub fn clear_bid(v: Sight, b: Bid) -> Bid
     ensures { λ r. ⌜ r ≡ cleared v b ⌝ }
 {
-    if crate::live::is_live(v.live, b.named as usize) {
+    if parts::live::is_live(v.live, b.named as usize) {
         return b;
     }
     own_bid(v)
@@ -177,7 +177,7 @@ pub fn forward_to(v: Sight, number: u16, master: u8, failing: Whom, b: Bid) -> D
 pub fn pass_on(v: Sight, number: u16, master: u8, failing: Whom, b: Bid) -> Dispatch
     ensures { λ r. ⌜ r ≡ passOn v number master failing b ⌝ }
 {
-    if crate::live::is_live(v.live, master as usize) {
+    if parts::live::is_live(v.live, master as usize) {
         let c = clear_bid(v, b);
         let d = raise_bid(v, c);
         return forward_to(v, number, master, failing, d);
@@ -214,7 +214,7 @@ pub fn reply_to(v: Sight, f: Frame) -> Dispatch
             failing,
             named,
         } => {
-            let k = crate::frame::next_number(number);
+            let k = parts::frame::next_number(number);
             on_token(v, k, priority, master, failing, named)
         }
         Frame::Transmit {
@@ -223,7 +223,7 @@ pub fn reply_to(v: Sight, f: Frame) -> Dispatch
             master: _,
             named: _,
         } => {
-            let k = crate::frame::next_number(number);
+            let k = parts::frame::next_number(number);
             send_head(v, k)
         }
         Frame::Information {
@@ -233,7 +233,7 @@ pub fn reply_to(v: Sight, f: Frame) -> Dispatch
             length: _,
             place: _,
         } => {
-            let k = crate::frame::next_number(number);
+            let k = parts::frame::next_number(number);
             round_from(v, k, Whom::Nobody)
         }
     }

@@ -1,13 +1,13 @@
 // Start.
 ghost use mathlib.Core.Path.{_≡_};
 ghost use Rattle.station.specs.Start.{sentFirst, started, startRule};
-use crate::frame::Dispatch;
-use crate::frame::Whom;
-use crate::moves::Event;
-use crate::moves::State;
 use crate::station::Answer;
 use crate::station::Payload;
 use crate::station::Station;
+use parts::frame::Dispatch;
+use parts::frame::Whom;
+use parts::moves::Event;
+use parts::moves::State;
 
 pub fn send_first(s: Station, d: Dispatch) -> Answer
     ensures { λ r. ⌜ r ≡ sentFirst s d ⌝ }
@@ -15,7 +15,7 @@ pub fn send_first(s: Station, d: Dispatch) -> Answer
     let turn = s.turn;
     let handled = turn.handled;
     let station = crate::station::sends_out(s, handled, d);
-    let gone = crate::list::empty();
+    let gone = parts::list::empty();
     Answer {
         station,
         number: 0,
@@ -45,8 +45,8 @@ impl Station {
     {
         let turn = self.turn;
         let state = turn.state;
-        let m = crate::moves::move_of(state, Event::Start);
-        if m != crate::moves::RUN {
+        let m = parts::moves::move_of(state, Event::Start);
+        if m != parts::moves::RUN {
             return crate::station::number_alone(self, m);
         }
         start_up(self)

@@ -11,12 +11,12 @@ ghost use Rattle.station.specs.Strike.{
   told,
   stopped,
 };
-use crate::frame::Whom;
-use crate::list::Messages;
-use crate::list::Which;
-use crate::live::Live;
-use crate::moves::State;
 use crate::station::Station;
+use parts::frame::Whom;
+use parts::list::Messages;
+use parts::list::Which;
+use parts::live::Live;
+use parts::moves::State;
 
 // A station and the messages that have left its send list, in order, not counted yet.
 pub struct Loss {
@@ -34,7 +34,7 @@ pub struct Struck {
 pub fn newly_struck(live: Live, p: u8) -> Whom
     ensures { λ r. ⌜ r ≡ newly live p ⌝ }
 {
-    if crate::live::is_live(live, p as usize) {
+    if parts::live::is_live(live, p as usize) {
         return Whom::Member(p);
     }
     Whom::Nobody
@@ -43,7 +43,7 @@ pub fn newly_struck(live: Live, p: u8) -> Whom
 pub fn strike_out(s: Station, p: u8) -> Station
     ensures { λ r. ⌜ r ≡ strike s p ⌝ }
 {
-    let live = crate::live::struck_from(s.live, p as usize);
+    let live = parts::live::struck_from(s.live, p as usize);
     crate::station::with_live(s, live)
 }
 
@@ -53,9 +53,9 @@ pub fn give_up_to(s: Station, p: u8) -> Loss
 {
     let turn = s.turn;
     let awaited = turn.awaited;
-    let flight = crate::frame::flight_of(awaited);
+    let flight = parts::frame::flight_of(awaited);
     let w = Which::WaitingFor(flight, p);
-    let d = crate::list::split(s.sends, w);
+    let d = parts::list::split(s.sends, w);
     let station = crate::station::with_sends(s, d.kept);
     let gone = d.gone;
     Loss { station, gone }
@@ -66,7 +66,7 @@ pub fn take_out(s: Station, place: u8) -> Station
     ensures { λ r. ⌜ r ≡ leave s place ⌝ }
 {
     let w = Which::HasPlace(place);
-    let d = crate::list::split(s.sends, w);
+    let d = parts::list::split(s.sends, w);
     crate::station::with_sends(s, d.kept)
 }
 
@@ -75,10 +75,10 @@ pub fn give_up_at(l: Loss, place: u8) -> Loss
 {
     let s = l.station;
     let w = Which::HasPlace(place);
-    let b = crate::list::choose(s.sends, w);
+    let b = parts::list::choose(s.sends, w);
     if b.some {
         let station = take_out(s, place);
-        let gone = crate::list::push(l.gone, b.message);
+        let gone = parts::list::push(l.gone, b.message);
         return Loss { station, gone };
     }
     l
@@ -91,7 +91,7 @@ pub fn give_up_flight(l: Loss) -> Loss
     let s = l.station;
     let turn = s.turn;
     let awaited = turn.awaited;
-    let f = crate::frame::flight_of(awaited);
+    let f = parts::frame::flight_of(awaited);
     if f.on {
         return give_up_at(l, f.place);
     }

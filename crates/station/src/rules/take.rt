@@ -1,15 +1,15 @@
 // Take.
 ghost use mathlib.Core.Path.{_≡_};
 ghost use Rattle.station.specs.Take.{takeRefusal, bestOn, taking, takeRule};
-use crate::frame::Dispatch;
-use crate::frame::Whom;
-use crate::list::Best;
-use crate::list::Message;
-use crate::list::Which;
-use crate::moves::Event;
 use crate::station::Answer;
 use crate::station::Payload;
 use crate::station::Station;
+use parts::frame::Dispatch;
+use parts::frame::Whom;
+use parts::list::Best;
+use parts::list::Message;
+use parts::list::Which;
+use parts::moves::Event;
 
 // The checks in their order.
 pub fn take_refusal(channel: usize, b: Best, room: usize) -> u32
@@ -31,16 +31,16 @@ pub fn best_on(s: Station, channel: usize) -> Best
     ensures { λ r. ⌜ r ≡ bestOn s channel ⌝ }
 {
     let w = Which::OnChannel(channel);
-    crate::list::choose(s.receives, w)
+    parts::list::choose(s.receives, w)
 }
 
 pub fn hand_out(s: Station, m: Message) -> Answer
     ensures { λ r. ⌜ r ≡ taking s m ⌝ }
 {
     let w = Which::HasPlace(m.place);
-    let d = crate::list::split(s.receives, w);
+    let d = parts::list::split(s.receives, w);
     let station = crate::station::with_receives(s, d.kept);
-    let gone = crate::list::empty();
+    let gone = parts::list::empty();
     Answer {
         station,
         number: 0,
@@ -58,8 +58,8 @@ impl Station {
     {
         let turn = self.turn;
         let state = turn.state;
-        let m = crate::moves::move_of(state, Event::Take);
-        if m != crate::moves::RUN {
+        let m = parts::moves::move_of(state, Event::Take);
+        if m != parts::moves::RUN {
             return crate::station::number_alone(self, m);
         }
         let b = best_on(self, channel);

@@ -15,11 +15,6 @@ ghost use Rattle.station.specs.Timer.{
   onTimer,
   timerRule,
 };
-use crate::frame::Dispatch;
-use crate::frame::Frame;
-use crate::frame::Whom;
-use crate::moves::Event;
-use crate::moves::State;
 use crate::rules::round::Bid;
 use crate::rules::round::Sight;
 use crate::rules::strike::Struck;
@@ -27,6 +22,11 @@ use crate::station::Answer;
 use crate::station::Payload;
 use crate::station::Station;
 use crate::station::Turn;
+use parts::frame::Dispatch;
+use parts::frame::Frame;
+use parts::frame::Whom;
+use parts::moves::Event;
+use parts::moves::State;
 
 // One retry more, below the limit.
 pub fn once_more(s: Station) -> Station
@@ -55,7 +55,7 @@ pub fn send_again(s: Station) -> Answer
     let t = s.turn;
     let sent = t.awaited;
     let station = once_more(s);
-    let gone = crate::list::empty();
+    let gone = parts::list::empty();
     Answer {
         station,
         number: 0,
@@ -82,7 +82,7 @@ pub fn token_again(v: Sight, number: u16, to: u8, master: u8, b: Bid) -> Dispatc
     if master == v.own {
         return crate::rules::round::round_from(v, number, w);
     }
-    if !crate::live::is_live(v.live, master as usize) {
+    if !parts::live::is_live(v.live, master as usize) {
         return crate::rules::round::round_from(v, number, w);
     }
     let c = rename(v, to, b);
@@ -101,7 +101,7 @@ pub fn send_instead(v: Sight, to: u8, f: Frame) -> Dispatch
             failing: _,
             named,
         } => {
-            let k = crate::frame::next_number(number);
+            let k = parts::frame::next_number(number);
             let b = Bid { priority, named };
             token_again(v, k, to, master, b)
         }
@@ -111,7 +111,7 @@ pub fn send_instead(v: Sight, to: u8, f: Frame) -> Dispatch
             master: _,
             named: _,
         } => {
-            let k = crate::frame::next_number(number);
+            let k = parts::frame::next_number(number);
             let w = Whom::Member(to);
             crate::rules::round::round_from(v, k, w)
         }
@@ -122,7 +122,7 @@ pub fn send_instead(v: Sight, to: u8, f: Frame) -> Dispatch
             length: _,
             place: _,
         } => {
-            let k = crate::frame::next_number(number);
+            let k = parts::frame::next_number(number);
             let w = Whom::Member(to);
             crate::rules::round::round_from(v, k, w)
         }
@@ -215,8 +215,8 @@ impl Station {
     {
         let turn = self.turn;
         let state = turn.state;
-        let m = crate::moves::move_of(state, Event::Timer);
-        if m != crate::moves::RUN {
+        let m = parts::moves::move_of(state, Event::Timer);
+        if m != parts::moves::RUN {
             return crate::station::number_alone(self, m);
         }
         let awaited = turn.awaited;

@@ -3,18 +3,18 @@ use mathlib.Core.Path.{_≡_, refl, sym, ap, _∙_}
 use mathlib.Core.Bool.{Bool, true, false}
 use Prim.Native.Nat.{ℕ}
 use borrow.Author.Tests.{not-true}
-use Rattle.station.specs.Choose.{pick}
-use Rattle.station.specs.Moves.{moveOf, runs, isWaiting}
-use Rattle.station.specs.Frames.{flight}
+use Rattle.parts.specs.Choose.{pick}
+use Rattle.parts.specs.Moves.{moveOf, runs, isWaiting}
+use Rattle.parts.specs.Frames.{flight}
 use Rattle.station.specs.Stations.{stateOf, awaitedOf, alone, quiet}
 use Rattle.station.specs.Strike.{leave}
 use Rattle.station.specs.Heard.{acknowledged, landed, acknowledge}
-use Rattle.station.specs.Whole.{companyGood}
-use Rattle.station.specs.declared.moves.State.{State}
-use Rattle.station.specs.declared.moves.State.the-variants.{Idle}
-use Rattle.station.specs.declared.moves.Event.the-variants.{Heard}
+use Rattle.wholeness.specs.Whole.{companyGood}
+use Rattle.parts.specs.declared.moves.State.{State}
+use Rattle.parts.specs.declared.moves.State.the-variants.{Idle}
+use Rattle.parts.specs.declared.moves.Event.the-variants.{Heard}
 use Rattle.station.specs.declared.station.Station.{Station}
-use Rattle.station.proofs.Laws.Choose.{pick-and}
+use Rattle.parts.proofs.Laws.Choose.{pick-and}
 use Rattle.station_theorems.proofs.Laws.Based.{Based, sound-based, quiet-idle}
 use Rattle.station_theorems.proofs.Laws.Struck.{left-based, still-based}
 use Rattle.station_theorems.proofs.Laws.Sound.{Sound}

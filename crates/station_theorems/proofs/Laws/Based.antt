@@ -7,27 +7,27 @@ use native.Mathlib.Omega.{arith}
 use lib.Dec.{leb}
 use lib.ListN.{length}
 use borrow.Author.Tests.{leb-true, le-leb, ltb-true, lt-ltb, eqb-true}
-use Rattle.station.specs.Choose.{every}
-use Rattle.station.specs.Moves.{moveOf, runs, isWaiting, isExcluded}
-use Rattle.station.specs.Messages.{all, flies, best}
-use Rattle.station.specs.Live.{liveAt}
-use Rattle.station.specs.Frames.{noFlight, flight}
+use Rattle.parts.specs.Choose.{every}
+use Rattle.parts.specs.Moves.{moveOf, runs, isWaiting, isExcluded}
+use Rattle.parts.specs.Messages.{all, flies, best}
+use Rattle.parts.specs.Live.{liveAt}
+use Rattle.parts.specs.Frames.{noFlight, flight}
 use Rattle.station.specs.Stations.{stateOf, awaitedOf, alone, quiet, sending}
-use Rattle.station.specs.Whole.{ringGood, ownSeat, otherSeat, companyGood, listGood, waitsWell, waitersGood, sameMessage, carried, awaitedGood}
-use Rattle.station.specs.declared.moves.State.{State}
-use Rattle.station.specs.declared.moves.State.the-variants.{Idle, Waiting, Alone}
-use Rattle.station.specs.declared.moves.Event.the-variants.{Heard}
-use Rattle.station.specs.declared.live.Live.{Live}
-use Rattle.station.specs.declared.list.Message.{Message}
-use Rattle.station.specs.declared.list.Messages.{Messages}
-use Rattle.station.specs.declared.list.Flight.{Flight}
-use Rattle.station.specs.declared.list.Which.the-variants.{HasPlace}
-use Rattle.station.specs.declared.frame.Frame.the-variants.{Token, Transmit, Information}
-use Rattle.station.specs.declared.frame.Dispatch.{Dispatch}
-use Rattle.station.specs.declared.frame.Dispatch.the-variants.{Nothing, Sent}
+use Rattle.wholeness.specs.Whole.{ringGood, ownSeat, otherSeat, companyGood, listGood, waitsWell, waitersGood, sameMessage, carried, awaitedGood}
+use Rattle.parts.specs.declared.moves.State.{State}
+use Rattle.parts.specs.declared.moves.State.the-variants.{Idle, Waiting, Alone}
+use Rattle.parts.specs.declared.moves.Event.the-variants.{Heard}
+use Rattle.parts.specs.declared.live.Live.{Live}
+use Rattle.parts.specs.declared.list.Message.{Message}
+use Rattle.parts.specs.declared.list.Messages.{Messages}
+use Rattle.parts.specs.declared.list.Flight.{Flight}
+use Rattle.parts.specs.declared.list.Which.the-variants.{HasPlace}
+use Rattle.parts.specs.declared.frame.Frame.the-variants.{Token, Transmit, Information}
+use Rattle.parts.specs.declared.frame.Dispatch.{Dispatch}
+use Rattle.parts.specs.declared.frame.Dispatch.the-variants.{Nothing, Sent}
 use Rattle.station.specs.declared.station.Handled.{Handled}
 use Rattle.station.specs.declared.station.Station.{Station}
-use Rattle.station.proofs.Laws.Choose.{pick-false}
+use Rattle.parts.proofs.Laws.Choose.{pick-false}
 use Rattle.station_theorems.proofs.Laws.States.{heard-cases}
 use Rattle.station_theorems.proofs.Laws.Tests.{held, hold, each-weaker}
 use Rattle.station_theorems.proofs.Laws.Seats.{Seats, seated, seating}

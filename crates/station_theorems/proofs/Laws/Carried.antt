@@ -5,14 +5,14 @@ use mathlib.Core.List.{List, [], _∷_, _++_}
 use Prim.Native.Nat.{ℕ}
 use lib.Dec.{eqb}
 use borrow.Author.Tests.{eqb-true, eqb-false, eq-eqb, ne-eqb}
-use Rattle.station.specs.Choose.{every}
-use Rattle.station.specs.Messages.{fits, noBest, theBest, betterOf, bestOf, only, hasPlace}
-use Rattle.station.specs.Whole.{apart}
-use Rattle.station.specs.declared.list.Message.{Message}
-use Rattle.station.specs.declared.list.Best.{Best}
-use Rattle.station.specs.declared.list.Which.{Which}
-use Rattle.station.specs.declared.list.Which.the-variants.{HasPlace}
-use Rattle.station.proofs.Laws.Messages.{place-none, place-here, place-later, best-none, best-more, better-unfit, better-first, only-none, only-one, only-not}
+use Rattle.parts.specs.Choose.{every}
+use Rattle.parts.specs.Messages.{fits, noBest, theBest, betterOf, bestOf, only, hasPlace}
+use Rattle.wholeness.specs.Whole.{apart}
+use Rattle.parts.specs.declared.list.Message.{Message}
+use Rattle.parts.specs.declared.list.Best.{Best}
+use Rattle.parts.specs.declared.list.Which.{Which}
+use Rattle.parts.specs.declared.list.Which.the-variants.{HasPlace}
+use Rattle.parts.proofs.Laws.Messages.{place-none, place-here, place-later, best-none, best-more, better-unfit, better-first, only-none, only-one, only-not}
 use Rattle.station_theorems.proofs.Laws.Tests.{each-first, each-rest}
 use Rattle.station_theorems.proofs.Laws.Kept.{place-left, place-right, place-append, apart-first, apart-rest}
 

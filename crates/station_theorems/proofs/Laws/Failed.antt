@@ -5,23 +5,23 @@ use Prim.Native.Nat.{ℕ}
 use lib.Dec.{eqb}
 use lib.ListN.{length}
 use borrow.Author.Tests.{eqb-true, eqb-false}
-use Rattle.station.specs.Choose.{pick}
-use Rattle.station.specs.Moves.{moveOf, runs}
-use Rattle.station.specs.Messages.{splitBy}
-use Rattle.station.specs.Live.{liveAt, without}
-use Rattle.station.specs.Frames.{flight}
+use Rattle.parts.specs.Choose.{pick}
+use Rattle.parts.specs.Moves.{moveOf, runs}
+use Rattle.parts.specs.Messages.{splitBy}
+use Rattle.parts.specs.Live.{liveAt, without}
+use Rattle.parts.specs.Frames.{flight}
 use Rattle.station.specs.Stations.{stateOf, awaitedOf, alone, quiet, counted, withSends}
 use Rattle.station.specs.Strike.{newly, strike, nothingGone, giveUpTo, leave, told, stopped}
 use Rattle.station.specs.Heard.{strikeOther, strikeHeard, failed}
-use Rattle.station.specs.Whole.{ownSeat, otherSeat, companyGood, listGood, waitersGood, awaitedGood}
-use Rattle.station.specs.declared.moves.State.the-variants.{Alone, Excluded}
-use Rattle.station.specs.declared.moves.Event.the-variants.{Heard}
-use Rattle.station.specs.declared.list.Messages.{Messages}
-use Rattle.station.specs.declared.frame.Whom.{Whom}
-use Rattle.station.specs.declared.frame.Whom.the-variants.{Nobody, Member}
+use Rattle.wholeness.specs.Whole.{ownSeat, otherSeat, companyGood, listGood, waitersGood, awaitedGood}
+use Rattle.parts.specs.declared.moves.State.the-variants.{Alone, Excluded}
+use Rattle.parts.specs.declared.moves.Event.the-variants.{Heard}
+use Rattle.parts.specs.declared.list.Messages.{Messages}
+use Rattle.parts.specs.declared.frame.Whom.{Whom}
+use Rattle.parts.specs.declared.frame.Whom.the-variants.{Nobody, Member}
 use Rattle.station.specs.declared.rules.strike.Loss.{Loss}
 use Rattle.station.specs.declared.station.Station.{Station}
-use Rattle.station.proofs.Laws.Choose.{pick-true}
+use Rattle.parts.proofs.Laws.Choose.{pick-true}
 use Rattle.station_theorems.proofs.Laws.Kept.{list-only}
 use Rattle.station_theorems.proofs.Laws.Seats.{Seats, seated, seating, struck-off, struck-length, struck-fewer}
 use Rattle.station_theorems.proofs.Laws.Based.{Ring, ringed, Based, sound-based, in-flight, quiet-alone}

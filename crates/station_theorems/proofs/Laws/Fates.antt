@@ -3,10 +3,10 @@ use mathlib.Core.Path.{_≡_, refl, sym, ap, subst, _∙_}
 use mathlib.Core.Bool.{Bool, true, false, not, _&&_, _||_, false≢true, and-false, or-true}
 use mathlib.Core.List.{List, [], List·Memᴰ, List·Memᴰ·append-cases, Memᴰ·append-left, Memᴰ·append-right}
 use mathlib.Core.Logic.{_⊎_, inl, inr}
-use Rattle.station.specs.Messages.{all, only, hasPlace}
-use Rattle.station.specs.Whole.{apart}
-use Rattle.station.specs.declared.list.Message.{Message}
-use Rattle.station.specs.declared.frame.Whom.{Whom}
+use Rattle.parts.specs.Messages.{all, only, hasPlace}
+use Rattle.wholeness.specs.Whole.{apart}
+use Rattle.parts.specs.declared.list.Message.{Message}
+use Rattle.parts.specs.declared.frame.Whom.{Whom}
 use Rattle.station.specs.declared.station.Station.{Station}
 use Rattle.station.specs.declared.station.Answer.{Answer}
 use Rattle.station_theorems.proofs.Laws.Only.{member-taken, taken-member}

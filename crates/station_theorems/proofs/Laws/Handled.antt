@@ -8,18 +8,18 @@ use lib.Dec.{eqb, ltb, leb}
 use lib.ListN.{length, length-take}
 use borrow.Author.Tests.{leb-false, lt-ltb, le-leb, ltb-false, ne-eqb, not-true, not-false}
 use Rattle.codec.proofs.Laws.Order.{none-holds}
-use Rattle.station.specs.Choose.{pick}
-use Rattle.station.specs.Moves.{isIdle, isWaiting, isExcluded}
-use Rattle.station.specs.Messages.{all, pushed, hasPlace, lowestFree}
-use Rattle.station.specs.Frames.{noFlight, fit}
+use Rattle.parts.specs.Choose.{pick}
+use Rattle.parts.specs.Moves.{isIdle, isWaiting, isExcluded}
+use Rattle.parts.specs.Messages.{all, pushed, hasPlace, lowestFree}
+use Rattle.parts.specs.Frames.{noFlight, fit}
 use Rattle.station.specs.Stations.{stateOf, awaitedOf, alone, addUpTo, withLost, withReceives}
 use Rattle.station.specs.Heard.{isLast, nothingMore, heardMessage, receive, stored, handle}
-use Rattle.station.specs.Whole.{ownSeat, companyGood, messageGood}
-use Rattle.station.specs.declared.moves.State.{State}
-use Rattle.station.specs.declared.moves.State.the-variants.{Idle}
-use Rattle.station.specs.declared.list.Message.{Message}
-use Rattle.station.specs.declared.frame.Frame.{Frame}
-use Rattle.station.specs.declared.frame.Frame.the-variants.{Token, Transmit, Information}
+use Rattle.wholeness.specs.Whole.{ownSeat, companyGood, messageGood}
+use Rattle.parts.specs.declared.moves.State.{State}
+use Rattle.parts.specs.declared.moves.State.the-variants.{Idle}
+use Rattle.parts.specs.declared.list.Message.{Message}
+use Rattle.parts.specs.declared.frame.Frame.{Frame}
+use Rattle.parts.specs.declared.frame.Frame.the-variants.{Token, Transmit, Information}
 use Rattle.station.specs.declared.rules.strike.Struck.{Struck}
 use Rattle.station.specs.declared.rules.heard.Stored.{Stored}
 use Rattle.station.specs.declared.station.Station.{Station}

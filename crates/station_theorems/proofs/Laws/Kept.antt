@@ -9,12 +9,12 @@ use lib.Dec.{eqb}
 use lib.ListN.{take, drop, set, length, length-append, length-take, length-set, replicate, length-replicate}
 use lib.Seq.{take-suc-set, drop-set-lt, drop-cons, take-append-seam, drop-append-seam}
 use borrow.Author.Tests.{leb-true, le-leb}
-use Rattle.station.specs.Choose.{pick, every}
-use Rattle.station.specs.Messages.{all, blank, pack, pushed, only, hasPlace}
-use Rattle.station.specs.Whole.{messageGood, apart, isBlank, listGood}
-use Rattle.station.specs.declared.list.Message.{Message}
-use Rattle.station.specs.declared.list.Messages.{Messages}
-use Rattle.station.proofs.Laws.Messages.{place-none, only-none, only-one, only-not, only-length, pushed-inside}
+use Rattle.parts.specs.Choose.{pick, every}
+use Rattle.parts.specs.Messages.{all, blank, pack, pushed, only, hasPlace}
+use Rattle.wholeness.specs.Whole.{messageGood, apart, isBlank, listGood}
+use Rattle.parts.specs.declared.list.Message.{Message}
+use Rattle.parts.specs.declared.list.Messages.{Messages}
+use Rattle.parts.proofs.Laws.Messages.{place-none, only-none, only-one, only-not, only-length, pushed-inside}
 use Rattle.station_theorems.proofs.Laws.Tests.{held, hold, each-none, each-first, each-rest, each, each-snoc, each-same}
 
 -- ---- what passes a test among those that another test takes

@@ -5,27 +5,27 @@ use mathlib.Core.List.{List, [], _++_}
 use Prim.Native.Nat.{ℕ, _≤_}
 use native.Mathlib.Omega.{arith}
 use lib.ListN.{length}
-use Rattle.station.specs.Messages.{all, flies, fits, only}
-use Rattle.station.specs.Frames.{numberOf, flight, failingOf}
+use Rattle.parts.specs.Messages.{all, flies, fits, only}
+use Rattle.parts.specs.Frames.{numberOf, flight, failingOf}
 use Rattle.station.specs.Stations.{awaitedOf, withTurn, withSends, quiet}
 use Rattle.station.specs.Heard.{acknowledged, landed, acknowledge, failed, receive, stored, handle, respond, heard}
 use Rattle.station.specs.Timer.{unanswered, afterStrike}
-use Rattle.station.specs.Whole.{apart}
-use Rattle.station.specs.declared.moves.State.the-variants.{Idle}
-use Rattle.station.specs.declared.list.Message.{Message}
-use Rattle.station.specs.declared.list.Messages.{Messages}
-use Rattle.station.specs.declared.list.Which.the-variants.{WaitingFor, HasPlace}
-use Rattle.station.specs.declared.frame.Whom.{Whom}
-use Rattle.station.specs.declared.frame.Whom.the-variants.{Nobody, Member}
-use Rattle.station.specs.declared.frame.Frame.{Frame}
-use Rattle.station.specs.declared.frame.Frame.the-variants.{Token, Transmit, Information}
-use Rattle.station.specs.declared.frame.Dispatch.{Dispatch}
-use Rattle.station.specs.declared.frame.Dispatch.the-variants.{Nothing}
+use Rattle.wholeness.specs.Whole.{apart}
+use Rattle.parts.specs.declared.moves.State.the-variants.{Idle}
+use Rattle.parts.specs.declared.list.Message.{Message}
+use Rattle.parts.specs.declared.list.Messages.{Messages}
+use Rattle.parts.specs.declared.list.Which.the-variants.{WaitingFor, HasPlace}
+use Rattle.parts.specs.declared.frame.Whom.{Whom}
+use Rattle.parts.specs.declared.frame.Whom.the-variants.{Nobody, Member}
+use Rattle.parts.specs.declared.frame.Frame.{Frame}
+use Rattle.parts.specs.declared.frame.Frame.the-variants.{Token, Transmit, Information}
+use Rattle.parts.specs.declared.frame.Dispatch.{Dispatch}
+use Rattle.parts.specs.declared.frame.Dispatch.the-variants.{Nothing}
 use Rattle.station.specs.declared.station.Station.{Station}
 use Rattle.station.specs.declared.rules.strike.Struck.{Struck}
 use Rattle.station.specs.declared.rules.heard.Stored.{Stored}
-use Rattle.station.proofs.Laws.Choose.{pick-true, pick-false}
-use Rattle.station.proofs.Laws.Messages.{only-length}
+use Rattle.parts.proofs.Laws.Choose.{pick-true, pick-false}
+use Rattle.parts.proofs.Laws.Messages.{only-length}
 use Rattle.station_theorems.proofs.Laws.Kept.{apart-only}
 use Rattle.station_theorems.proofs.Laws.Telling.{pick-either}
 use Rattle.station_theorems.proofs.Laws.Only.{only-same, only-all, only-nothing, only-twice}

@@ -7,22 +7,22 @@ use Prim.Native.Nat.{ℕ, _≤_}
 use native.Mathlib.Omega.{arith}
 use lib.Dec.{eqb}
 use lib.ListN.{length}
-use Rattle.station.specs.Choose.{pick}
-use Rattle.station.specs.Messages.{all, none, flies, fits, only}
-use Rattle.station.specs.Frames.{flight}
+use Rattle.parts.specs.Choose.{pick}
+use Rattle.parts.specs.Messages.{all, none, flies, fits, only}
+use Rattle.parts.specs.Frames.{flight}
 use Rattle.station.specs.Stations.{awaitedOf, alone}
 use Rattle.station.specs.Strike.{newly, strike, nothingGone, giveUpTo, giveUpFlight}
 use Rattle.station.specs.Heard.{landed, strikeOther, strikeHeard, failed}
-use Rattle.station.specs.Whole.{apart}
-use Rattle.station.specs.declared.list.Message.{Message}
-use Rattle.station.specs.declared.list.Messages.{Messages}
-use Rattle.station.specs.declared.list.Which.the-variants.{WaitingFor}
-use Rattle.station.specs.declared.frame.Whom.{Whom}
-use Rattle.station.specs.declared.frame.Whom.the-variants.{Nobody, Member}
+use Rattle.wholeness.specs.Whole.{apart}
+use Rattle.parts.specs.declared.list.Message.{Message}
+use Rattle.parts.specs.declared.list.Messages.{Messages}
+use Rattle.parts.specs.declared.list.Which.the-variants.{WaitingFor}
+use Rattle.parts.specs.declared.frame.Whom.{Whom}
+use Rattle.parts.specs.declared.frame.Whom.the-variants.{Nobody, Member}
 use Rattle.station.specs.declared.station.Station.{Station}
 use Rattle.station.specs.declared.station.Answer.{Answer}
 use Rattle.station.specs.declared.rules.strike.Struck.{Struck}
-use Rattle.station.proofs.Laws.Choose.{pick-true, pick-false}
+use Rattle.parts.proofs.Laws.Choose.{pick-true, pick-false}
 use Rattle.station_theorems.proofs.Laws.Only.{only-same, only-all, only-nothing, only-twice}
 use Rattle.station_theorems.proofs.Laws.Leaving.{flight-leaves, to-kept, to-told, to-ready}
 

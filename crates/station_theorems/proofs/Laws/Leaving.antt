@@ -7,21 +7,21 @@ use native.Mathlib.Omega.{arith}
 use lib.Dec.{eqb}
 use lib.ListN.{length}
 use borrow.Author.Tests.{eq-eqb, ne-eqb, eqb-true, eqb-false}
-use Rattle.station.specs.Messages.{all, flies, fits, only, splitBy, noBest, theBest, bestOf, best, hasPlace}
-use Rattle.station.specs.Frames.{flight}
+use Rattle.parts.specs.Messages.{all, flies, fits, only, splitBy, noBest, theBest, bestOf, best, hasPlace}
+use Rattle.parts.specs.Frames.{flight}
 use Rattle.station.specs.Stations.{awaitedOf}
 use Rattle.station.specs.Strike.{giveUpTo, giveUpAt, giveUpFlight}
-use Rattle.station.specs.Whole.{apart}
-use Rattle.station.specs.declared.list.Message.{Message}
-use Rattle.station.specs.declared.list.Messages.{Messages}
-use Rattle.station.specs.declared.list.Flight.{Flight}
-use Rattle.station.specs.declared.list.Best.{Best}
-use Rattle.station.specs.declared.list.Which.{Which}
-use Rattle.station.specs.declared.list.Which.the-variants.{WaitingFor, HasPlace}
+use Rattle.wholeness.specs.Whole.{apart}
+use Rattle.parts.specs.declared.list.Message.{Message}
+use Rattle.parts.specs.declared.list.Messages.{Messages}
+use Rattle.parts.specs.declared.list.Flight.{Flight}
+use Rattle.parts.specs.declared.list.Best.{Best}
+use Rattle.parts.specs.declared.list.Which.{Which}
+use Rattle.parts.specs.declared.list.Which.the-variants.{WaitingFor, HasPlace}
 use Rattle.station.specs.declared.station.Station.{Station}
 use Rattle.station.specs.declared.rules.strike.Loss.{Loss}
-use Rattle.station.proofs.Laws.Choose.{pick-true, pick-false}
-use Rattle.station.proofs.Laws.Messages.{place-here, best-none, best-more, better-first, only-length}
+use Rattle.parts.proofs.Laws.Choose.{pick-true, pick-false}
+use Rattle.parts.proofs.Laws.Messages.{place-here, best-none, best-more, better-first, only-length}
 use Rattle.station_theorems.proofs.Laws.Places.{place-of}
 use Rattle.station_theorems.proofs.Laws.Kept.{apart-first, apart-rest, apart-only, pack-all, pack-len, pack-length, push-all}
 use Rattle.station_theorems.proofs.Laws.Carried.{best-only}

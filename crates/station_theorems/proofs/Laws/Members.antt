@@ -5,11 +5,11 @@ use mathlib.Core.List.{List, [], _∷_, _++_, List·Memᴰ, List·Memᴰ·head, 
 use Prim.Native.Nat.{ℕ, zero, suc, _<_}
 use native.Mathlib.Omega.{arith}
 use lib.ListN.{length, getD}
-use Rattle.station.specs.Choose.{every}
-use Rattle.station.specs.Messages.{blank, hasPlace}
-use Rattle.station.specs.Whole.{apart}
-use Rattle.station.specs.declared.list.Message.{Message}
-use Rattle.station.proofs.Laws.Messages.{place-none, place-here, place-later}
+use Rattle.parts.specs.Choose.{every}
+use Rattle.parts.specs.Messages.{blank, hasPlace}
+use Rattle.wholeness.specs.Whole.{apart}
+use Rattle.parts.specs.declared.list.Message.{Message}
+use Rattle.parts.proofs.Laws.Messages.{place-none, place-here, place-later}
 use Rattle.station_theorems.proofs.Laws.Tests.{each-none, each-first, each-rest, each}
 use Rattle.station_theorems.proofs.Laws.Kept.{place-left, place-right, place-append, apart-end, apart-first, apart-rest, apart-both}
 

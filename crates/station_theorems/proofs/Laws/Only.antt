@@ -6,9 +6,9 @@ use mathlib.Core.Logic.{_⊎_, inl, inr}
 use Prim.Native.Nat.{suc, _+_}
 use native.Mathlib.Omega.{arith}
 use lib.ListN.{length}
-use Rattle.station.specs.declared.list.Message.{Message}
-use Rattle.station.specs.Messages.{only}
-use Rattle.station.proofs.Laws.Messages.{only-none, only-one, only-not}
+use Rattle.parts.specs.declared.list.Message.{Message}
+use Rattle.parts.specs.Messages.{only}
+use Rattle.parts.proofs.Laws.Messages.{only-none, only-one, only-not}
 
 -- ---- tests that agree take the same
 

@@ -7,9 +7,9 @@ use native.Mathlib.Omega.{arith}
 use lib.Dec.{eqb}
 use lib.ListN.{length}
 use borrow.Author.Tests.{eqb-true, eqb-false}
-use Rattle.station.specs.declared.list.Message.{Message}
-use Rattle.station.specs.Messages.{only, hasPlace, freeFrom, lowestFree}
-use Rattle.station.proofs.Laws.Messages.{place-none, place-here, place-later, only-one, only-not, only-length, free-here, free-later, free-none}
+use Rattle.parts.specs.declared.list.Message.{Message}
+use Rattle.parts.specs.Messages.{only, hasPlace, freeFrom, lowestFree}
+use Rattle.parts.proofs.Laws.Messages.{place-none, place-here, place-later, only-one, only-not, only-length, free-here, free-later, free-none}
 
 -- ---- a place that is had is some message's, and one that is not had is no message's
 

@@ -9,11 +9,11 @@ use lib.Dec.{ltb, leb, eqb}
 use lib.ListN.{length, getD, length-set, List·getD-eq-default}
 use lib.Seq.{getD-set-same, getD-set-other, set-out}
 use borrow.Author.Tests.{ltb-true, ltb-false, lt-leb, leb-true, leb-false, eq-eqb, ne-eqb, eqb-true, eqb-false, not-true}
-use Rattle.station.specs.Live.{liveAt, without}
-use Rattle.station.specs.Whole.{ownSeat, otherSeat, seatGood, seatsGood}
-use Rattle.station.specs.declared.moves.State.{State}
-use Rattle.station.specs.declared.live.Live.{Live}
-use Rattle.station.proofs.Laws.Choose.{pick-true, pick-false, pick-and}
+use Rattle.parts.specs.Live.{liveAt, without}
+use Rattle.wholeness.specs.Whole.{ownSeat, otherSeat, seatGood, seatsGood}
+use Rattle.parts.specs.declared.moves.State.{State}
+use Rattle.parts.specs.declared.live.Live.{Live}
+use Rattle.parts.proofs.Laws.Choose.{pick-true, pick-false, pick-and}
 use Rattle.station_theorems.proofs.Laws.Tests.{both}
 
 -- ---- seat by seat

@@ -5,26 +5,26 @@ use mathlib.Core.Bool.{Bool, true, false, not, cond, false≢true}
 use Prim.Native.Nat.{ℕ, _<_}
 use lib.Dec.{eqb}
 use borrow.Author.Tests.{lt-ltb, le-ltb, lt-leb, leb-true, leb-false, ltb-true, eqb-false, eq-eqb, ne-eqb, not-true}
-use Rattle.station.specs.Choose.{pick, every}
-use Rattle.station.specs.Messages.{all, best, theBest}
-use Rattle.station.specs.Live.{liveAt, successor}
-use Rattle.station.specs.Frames.{next, memberOrNobody, fit}
+use Rattle.parts.specs.Choose.{pick, every}
+use Rattle.parts.specs.Messages.{all, best, theBest}
+use Rattle.parts.specs.Live.{liveAt, successor}
+use Rattle.parts.specs.Frames.{next, memberOrNobody, fit}
 use Rattle.station.specs.Stations.{alone, head}
 use Rattle.station.specs.Round.{sight, startRound, informationOf, sendHead, grant, returned, ownBid, cleared, raised, forward, passOn, onToken, reply}
 use Rattle.station.specs.Timer.{renamed, tokenAgain, resend}
-use Rattle.station.specs.Whole.{messageGood, listGood, sameMessage, carried, awaitedGood}
-use Rattle.station.specs.declared.moves.State.the-variants.{Waiting}
-use Rattle.station.specs.declared.list.Message.{Message}
-use Rattle.station.specs.declared.list.Best.{Best}
-use Rattle.station.specs.declared.frame.Whom.{Whom}
-use Rattle.station.specs.declared.frame.Whom.the-variants.{Nobody, Member}
-use Rattle.station.specs.declared.frame.Frame.{Frame}
-use Rattle.station.specs.declared.frame.Frame.the-variants.{Token, Transmit, Information}
-use Rattle.station.specs.declared.frame.Dispatch.{Dispatch}
-use Rattle.station.specs.declared.frame.Dispatch.the-variants.{Sent}
+use Rattle.wholeness.specs.Whole.{messageGood, listGood, sameMessage, carried, awaitedGood}
+use Rattle.parts.specs.declared.moves.State.the-variants.{Waiting}
+use Rattle.parts.specs.declared.list.Message.{Message}
+use Rattle.parts.specs.declared.list.Best.{Best}
+use Rattle.parts.specs.declared.frame.Whom.{Whom}
+use Rattle.parts.specs.declared.frame.Whom.the-variants.{Nobody, Member}
+use Rattle.parts.specs.declared.frame.Frame.{Frame}
+use Rattle.parts.specs.declared.frame.Frame.the-variants.{Token, Transmit, Information}
+use Rattle.parts.specs.declared.frame.Dispatch.{Dispatch}
+use Rattle.parts.specs.declared.frame.Dispatch.the-variants.{Sent}
 use Rattle.station.specs.declared.rules.round.Bid.{Bid}
 use Rattle.station.specs.declared.station.Station.{Station}
-use Rattle.station.proofs.Laws.Choose.{pick-false}
+use Rattle.parts.proofs.Laws.Choose.{pick-false}
 use Rattle.station_theorems.proofs.Laws.Tests.{held, hold}
 use Rattle.station_theorems.proofs.Laws.Kept.{list-messages, list-apart}
 use Rattle.station_theorems.proofs.Laws.Carried.{each-within, best-found}

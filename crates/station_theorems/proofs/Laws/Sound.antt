@@ -5,13 +5,13 @@ use Prim.Native.Nat.{ℕ}
 use lib.Dec.{eqb, leb}
 use lib.ListN.{length}
 use borrow.Author.Tests.{eqb-true}
-use Rattle.station.specs.Choose.{pick}
-use Rattle.station.specs.Moves.{moveOf, runs}
-use Rattle.station.specs.Messages.{all}
-use Rattle.station.specs.Frames.{flight}
+use Rattle.parts.specs.Choose.{pick}
+use Rattle.parts.specs.Moves.{moveOf, runs}
+use Rattle.parts.specs.Messages.{all}
+use Rattle.parts.specs.Frames.{flight}
 use Rattle.station.specs.Stations.{stateOf, awaitedOf, alone, answered, moved, unless}
-use Rattle.station.specs.Whole.{ringGood, seatsGood, companyGood, listGood, listsGood, waitersGood, awaitedGood, whole}
-use Rattle.station.specs.declared.moves.Event.{Event}
+use Rattle.wholeness.specs.Whole.{ringGood, seatsGood, companyGood, listGood, listsGood, waitersGood, awaitedGood, whole}
+use Rattle.parts.specs.declared.moves.Event.{Event}
 use Rattle.station.specs.declared.station.Station.{Station}
 use Rattle.station.specs.declared.station.Answer.{Answer}
 use Rattle.station_theorems.proofs.Laws.Tests.{held, hold}

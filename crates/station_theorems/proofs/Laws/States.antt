@@ -3,10 +3,10 @@ use mathlib.Core.Path.{_≡_, refl}
 use mathlib.Core.Bool.{true, false≢true}
 use Prim.Native.Nat.{ℕ}
 use native.Mathlib.Omega.{arith}
-use Rattle.station.specs.Moves.{moveOf, runs, isIdle, isWaiting, isExcluded}
-use Rattle.station.specs.declared.moves.State.{State}
-use Rattle.station.specs.declared.moves.State.the-variants.{Offline, Idle, Waiting, Alone, Excluded}
-use Rattle.station.specs.declared.moves.Event.the-variants.{Start, Heard, Timer}
+use Rattle.parts.specs.Moves.{moveOf, runs, isIdle, isWaiting, isExcluded}
+use Rattle.parts.specs.declared.moves.State.{State}
+use Rattle.parts.specs.declared.moves.State.the-variants.{Offline, Idle, Waiting, Alone, Excluded}
+use Rattle.parts.specs.declared.moves.Event.the-variants.{Start, Heard, Timer}
 
 -- ---- by the table of moves
 

@@ -7,29 +7,29 @@ use native.Mathlib.Omega.{arith}
 use lib.Dec.{eqb}
 use lib.ListN.{length}
 use borrow.Author.Tests.{eqb-false, eq-eqb, ne-eqb, not-true}
-use Rattle.station.specs.Choose.{pick, every}
-use Rattle.station.specs.Moves.{moveOf, runs, isExcluded}
-use Rattle.station.specs.Messages.{all, flies, fits, only, pack, splitBy, best, bestOf, noBest}
-use Rattle.station.specs.Live.{liveAt, without}
-use Rattle.station.specs.Frames.{noFlight, flight}
+use Rattle.parts.specs.Choose.{pick, every}
+use Rattle.parts.specs.Moves.{moveOf, runs, isExcluded}
+use Rattle.parts.specs.Messages.{all, flies, fits, only, pack, splitBy, best, bestOf, noBest}
+use Rattle.parts.specs.Live.{liveAt, without}
+use Rattle.parts.specs.Frames.{noFlight, flight}
 use Rattle.station.specs.Stations.{stateOf, awaitedOf, alone, counted}
 use Rattle.station.specs.Strike.{strike, giveUpTo, leave, giveUpAt, giveUpFlight}
-use Rattle.station.specs.Whole.{ownSeat, otherSeat, companyGood, listGood, waitsWell, waitersGood, sameMessage, carried, awaitedGood}
-use Rattle.station.specs.declared.moves.State.{State}
-use Rattle.station.specs.declared.moves.Event.the-variants.{Heard}
-use Rattle.station.specs.declared.live.Live.{Live}
-use Rattle.station.specs.declared.list.Message.{Message}
-use Rattle.station.specs.declared.list.Messages.{Messages}
-use Rattle.station.specs.declared.list.Flight.{Flight}
-use Rattle.station.specs.declared.list.Best.{Best}
-use Rattle.station.specs.declared.list.Which.the-variants.{WaitingFor, HasPlace}
-use Rattle.station.specs.declared.frame.Frame.the-variants.{Token, Transmit, Information}
-use Rattle.station.specs.declared.frame.Dispatch.{Dispatch}
-use Rattle.station.specs.declared.frame.Dispatch.the-variants.{Nothing, Sent}
+use Rattle.wholeness.specs.Whole.{ownSeat, otherSeat, companyGood, listGood, waitsWell, waitersGood, sameMessage, carried, awaitedGood}
+use Rattle.parts.specs.declared.moves.State.{State}
+use Rattle.parts.specs.declared.moves.Event.the-variants.{Heard}
+use Rattle.parts.specs.declared.live.Live.{Live}
+use Rattle.parts.specs.declared.list.Message.{Message}
+use Rattle.parts.specs.declared.list.Messages.{Messages}
+use Rattle.parts.specs.declared.list.Flight.{Flight}
+use Rattle.parts.specs.declared.list.Best.{Best}
+use Rattle.parts.specs.declared.list.Which.the-variants.{WaitingFor, HasPlace}
+use Rattle.parts.specs.declared.frame.Frame.the-variants.{Token, Transmit, Information}
+use Rattle.parts.specs.declared.frame.Dispatch.{Dispatch}
+use Rattle.parts.specs.declared.frame.Dispatch.the-variants.{Nothing, Sent}
 use Rattle.station.specs.declared.rules.strike.Loss.{Loss}
 use Rattle.station.specs.declared.station.Station.{Station}
-use Rattle.station.proofs.Laws.Choose.{pick-true, pick-false}
-use Rattle.station.proofs.Laws.Messages.{only-length}
+use Rattle.parts.proofs.Laws.Choose.{pick-true, pick-false}
+use Rattle.parts.proofs.Laws.Messages.{only-length}
 use Rattle.station_theorems.proofs.Laws.States.{heard-cases}
 use Rattle.station_theorems.proofs.Laws.Tests.{held, hold, each-weaker}
 use Rattle.station_theorems.proofs.Laws.Kept.{each-taken, list-only, list-length, pack-all, pack-length}

@@ -7,19 +7,19 @@ use native.Mathlib.Omega.{arith}
 use lib.ListN.{getD, set, length, replicate, length-append, length-replicate, length-set, length-take}
 use lib.Dec.{ltb, leb}
 use borrow.Author.Tests.{ltb-true, le-leb}
-use Rattle.station.specs.Choose.{pick}
-use Rattle.station.specs.Live.{liveAt, without}
-use Rattle.station.specs.Messages.{all, none, blank, pack, pushed, splitBy}
+use Rattle.parts.specs.Choose.{pick}
+use Rattle.parts.specs.Live.{liveAt, without}
+use Rattle.parts.specs.Messages.{all, none, blank, pack, pushed, splitBy}
 use Rattle.station.specs.Stations.{withSends, addUpTo}
 use Rattle.station.specs.Strike.{newly, strike, nothingGone, giveUpTo, giveUpAt, giveUpFlight, told}
-use Rattle.station.specs.declared.live.Live.{Live}
-use Rattle.station.specs.declared.list.Message.{Message}
-use Rattle.station.specs.declared.list.Messages.{Messages}
-use Rattle.station.specs.declared.frame.Whom.{Whom}
-use Rattle.station.specs.declared.frame.Whom.the-variants.{Nobody, Member}
+use Rattle.parts.specs.declared.live.Live.{Live}
+use Rattle.parts.specs.declared.list.Message.{Message}
+use Rattle.parts.specs.declared.list.Messages.{Messages}
+use Rattle.parts.specs.declared.frame.Whom.{Whom}
+use Rattle.parts.specs.declared.frame.Whom.the-variants.{Nobody, Member}
 use Rattle.station.specs.declared.station.Station.{Station}
 use Rattle.station.specs.declared.rules.strike.Loss.{Loss}
-use Rattle.station.proofs.Laws.Choose.{pick-true, pick-false}
+use Rattle.parts.proofs.Laws.Choose.{pick-true, pick-false}
 
 -- what holds of both choices holds of the one picked
 pub pick-either : {A : Type 0} (P : A → Type 0) (b : Bool) (x y : A) → (b ≡ true → P x) → (b ≡ false → P y) → P (pick b x y)

@@ -4,8 +4,8 @@ use mathlib.Core.Bool.{Bool, true, false}
 use mathlib.Core.List.{List, [], _∷_, _++_}
 use Prim.Native.Nat.{ℕ, zero, suc}
 use lib.ListN.{replicate}
-use Rattle.station.specs.Choose.{pick, allOf, every}
-use Rattle.station.proofs.Laws.Choose.{pick-and}
+use Rattle.parts.specs.Choose.{pick, allOf, every}
+use Rattle.parts.proofs.Laws.Choose.{pick-and}
 
 -- ---- two tests
 

@@ -4,23 +4,23 @@ use Prim.Native.Nat.{ℕ, _≤_}
 use native.Mathlib.Omega.{arith}
 use lib.Dec.{ltb, eqb}
 use borrow.Author.Tests.{eqb-true, ltb-false}
-use Rattle.station.specs.Moves.{moveOf, runs}
-use Rattle.station.specs.Frames.{numberOf, failingOf}
+use Rattle.parts.specs.Moves.{moveOf, runs}
+use Rattle.parts.specs.Frames.{numberOf, failingOf}
 use Rattle.station.specs.Stations.{stateOf, awaitedOf, quiet, answered, moved, unless}
 use Rattle.station.specs.Strike.{newly, strike, nothingGone, giveUpTo, stopped}
 use Rattle.station.specs.Heard.{landed, acknowledge, strikeOther, strikeHeard, failed, receive, stored, handle, respond, heard, checks, frameRule}
 use Rattle.station.specs.Timer.{again, unanswered, afterStrike, silence, onTimer, timerRule}
-use Rattle.station.specs.declared.moves.State.{State}
-use Rattle.station.specs.declared.moves.State.the-variants.{Offline, Idle, Waiting, Alone, Excluded}
-use Rattle.station.specs.declared.moves.Event.{Event}
-use Rattle.station.specs.declared.moves.Event.the-variants.{Heard, Timer}
-use Rattle.station.specs.declared.list.Message.{Message}
-use Rattle.station.specs.declared.frame.Whom.{Whom}
-use Rattle.station.specs.declared.frame.Whom.the-variants.{Nobody, Member}
-use Rattle.station.specs.declared.frame.Frame.{Frame}
-use Rattle.station.specs.declared.frame.Frame.the-variants.{Token, Transmit, Information}
-use Rattle.station.specs.declared.frame.Dispatch.{Dispatch}
-use Rattle.station.specs.declared.frame.Dispatch.the-variants.{Nothing, Sent}
+use Rattle.parts.specs.declared.moves.State.{State}
+use Rattle.parts.specs.declared.moves.State.the-variants.{Offline, Idle, Waiting, Alone, Excluded}
+use Rattle.parts.specs.declared.moves.Event.{Event}
+use Rattle.parts.specs.declared.moves.Event.the-variants.{Heard, Timer}
+use Rattle.parts.specs.declared.list.Message.{Message}
+use Rattle.parts.specs.declared.frame.Whom.{Whom}
+use Rattle.parts.specs.declared.frame.Whom.the-variants.{Nobody, Member}
+use Rattle.parts.specs.declared.frame.Frame.{Frame}
+use Rattle.parts.specs.declared.frame.Frame.the-variants.{Token, Transmit, Information}
+use Rattle.parts.specs.declared.frame.Dispatch.{Dispatch}
+use Rattle.parts.specs.declared.frame.Dispatch.the-variants.{Nothing, Sent}
 use Rattle.station.specs.declared.station.Station.{Station}
 use Rattle.station.specs.declared.station.Answer.{Answer}
 use Rattle.station.specs.declared.rules.strike.Loss.{Loss}

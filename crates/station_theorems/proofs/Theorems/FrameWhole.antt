@@ -7,15 +7,15 @@ use native.Mathlib.Omega.{arith}
 use lib.Dec.{eqb, leb}
 use borrow.Author.Tests.{leb-false, eqb-false}
 use Rattle.codec.proofs.Laws.Order.{none-holds}
-use Rattle.station.specs.Choose.{pick}
-use Rattle.station.specs.Moves.{moveOf, runs}
-use Rattle.station.specs.Live.{liveAt}
-use Rattle.station.specs.Frames.{numberOf, failingOf, fit}
+use Rattle.parts.specs.Choose.{pick}
+use Rattle.parts.specs.Moves.{moveOf, runs}
+use Rattle.parts.specs.Live.{liveAt}
+use Rattle.parts.specs.Frames.{numberOf, failingOf, fit}
 use Rattle.station.specs.Stations.{stateOf}
 use Rattle.station.specs.Heard.{heardRefusal, acknowledge, failed, nothingMore, stored, handle, silent, respond, heard, frameRule}
-use Rattle.station.specs.declared.moves.State.the-variants.{Idle}
-use Rattle.station.specs.declared.moves.Event.the-variants.{Heard}
-use Rattle.station.specs.declared.frame.Frame.{Frame}
+use Rattle.parts.specs.declared.moves.State.the-variants.{Idle}
+use Rattle.parts.specs.declared.moves.Event.the-variants.{Heard}
+use Rattle.parts.specs.declared.frame.Frame.{Frame}
 use Rattle.station.specs.declared.rules.strike.Struck.{Struck}
 use Rattle.station.specs.declared.station.Station.{Station}
 use Rattle.station_theorems.proofs.Laws.Sound.{Sound, WholeStation, whole-sound, whole-station, moved-sound, unless-sound}

@@ -3,8 +3,8 @@ use mathlib.Core.Path.{_≡_}
 use mathlib.Core.List.{List, List·Memᴰ}
 use Prim.Native.Nat.{ℕ, _<_, _≤_}
 use lib.ListN.{length}
-use Rattle.station.specs.declared.list.Message.{Message}
-use Rattle.station.specs.Messages.{lowestFree}
+use Rattle.parts.specs.declared.list.Message.{Message}
+use Rattle.parts.specs.Messages.{lowestFree}
 use Rattle.station_theorems.proofs.Laws.Places.{place-of, place-nobodys, lowest-free-high, lower-taken, lowest-free-free, lowest-free-room}
 
 -- p is no message's place, each lower number is some message's, and there is such a p below 16 wherever fewer than 16 messages are

@@ -3,14 +3,14 @@
 use mathlib.Core.Path.{_≡_, sym, ap, _∙_}
 use Prim.Native.Nat.{ℕ, _+_, _≤_}
 use lib.ListN.{length}
-use Rattle.station.specs.Messages.{all}
+use Rattle.parts.specs.Messages.{all}
 use Rattle.station.specs.Stations.{addUpTo}
-use Rattle.station.specs.Frames.{failingOf}
+use Rattle.parts.specs.Frames.{failingOf}
 use Rattle.station.specs.Heard.{heard, frameRule}
 use Rattle.station.specs.Timer.{timerRule}
-use Rattle.station.specs.declared.frame.Whom.{Whom}
-use Rattle.station.specs.declared.frame.Whom.the-variants.{Nobody, Member}
-use Rattle.station.specs.declared.frame.Frame.{Frame}
+use Rattle.parts.specs.declared.frame.Whom.{Whom}
+use Rattle.parts.specs.declared.frame.Whom.the-variants.{Nobody, Member}
+use Rattle.parts.specs.declared.frame.Frame.{Frame}
 use Rattle.station.specs.declared.station.Station.{Station}
 use Rattle.station.specs.declared.station.Answer.{Answer}
 use Rattle.station_theorems.proofs.Laws.Telling.{roomy-length, counts-all, counts-stop}

@@ -8,12 +8,12 @@ use native.Mathlib.Omega.{arith}
 use lib.ListN.{length, getD, drop, length-drop}
 use lib.Seq.{getD-drop}
 use borrow.Author.Tests.{ltb-true, leb-true, eqb-true, eqb-false, not-true, lt-ltb, le-leb, ne-eqb}
-use Rattle.station.specs.Choose.{every}
-use Rattle.station.specs.Messages.{all, blank}
-use Rattle.station.specs.Whole.{messageGood, isBlank, listGood}
-use Rattle.station.specs.declared.list.Message.{Message}
-use Rattle.station.specs.declared.list.Messages.{Messages}
-use Rattle.station.proofs.Laws.Messages.{place-none}
+use Rattle.parts.specs.Choose.{every}
+use Rattle.parts.specs.Messages.{all, blank}
+use Rattle.wholeness.specs.Whole.{messageGood, isBlank, listGood}
+use Rattle.parts.specs.declared.list.Message.{Message}
+use Rattle.parts.specs.declared.list.Messages.{Messages}
+use Rattle.parts.proofs.Laws.Messages.{place-none}
 use Rattle.station_theorems.proofs.Laws.Tests.{held, hold, each-none, each-first, each-rest, each}
 use Rattle.station_theorems.proofs.Laws.Kept.{list-short, list-messages, list-apart, list-blank, list-made}
 use Rattle.station_theorems.proofs.Laws.Members.{each-member, each-of, apart-at, apart-of}

@@ -9,16 +9,16 @@ use native.Mathlib.Omega.{arith}
 use lib.Dec.{ltb}
 use lib.Seq.{append-snoc}
 use borrow.Author.Tests.{ltb-true, ltb-false}
-use Rattle.station.specs.declared.list.Message.{Message}
-use Rattle.station.specs.declared.list.Messages.{Messages}
-use Rattle.station.specs.declared.list.Best.{Best}
-use Rattle.station.specs.declared.list.Which.{Which}
-use Rattle.station.specs.declared.list.Which.the-variants.{AnyWaiting}
+use Rattle.parts.specs.declared.list.Message.{Message}
+use Rattle.parts.specs.declared.list.Messages.{Messages}
+use Rattle.parts.specs.declared.list.Best.{Best}
+use Rattle.parts.specs.declared.list.Which.{Which}
+use Rattle.parts.specs.declared.list.Which.the-variants.{AnyWaiting}
 use Rattle.station.specs.declared.station.Station.{Station}
-use Rattle.station.specs.Messages.{all, fits, noBest, theBest, betterOf, bestOf, best}
-use Rattle.station.specs.Frames.{flight}
+use Rattle.parts.specs.Messages.{all, fits, noBest, theBest, betterOf, bestOf, best}
+use Rattle.parts.specs.Frames.{flight}
 use Rattle.station.specs.Stations.{awaitedOf, head}
-use Rattle.station.proofs.Laws.Messages.{best-none, best-more, better-unfit, better-first, better-higher, better-kept}
+use Rattle.parts.proofs.Laws.Messages.{best-none, best-more, better-unfit, better-first, better-higher, better-kept}
 
 -- m stands in the list and fits; of those that fit, each before it is of a lower priority, and none behind it of a higher one
 pub record First (w : Which) (ms : List Message) (m : Message) : Type 0 where

@@ -9,23 +9,23 @@ use native.Mathlib.Omega.{arith}
 use lib.Dec.{eqb}
 use lib.ListN.{length, length-take}
 use borrow.Author.Tests.{eqb-true}
-use Rattle.station.specs.Moves.{moveOf, runs}
-use Rattle.station.specs.Live.{liveAt}
-use Rattle.station.specs.Messages.{all, none, hasPlace}
-use Rattle.station.specs.Frames.{numberOf}
+use Rattle.parts.specs.Moves.{moveOf, runs}
+use Rattle.parts.specs.Live.{liveAt}
+use Rattle.parts.specs.Messages.{all, none, hasPlace}
+use Rattle.parts.specs.Frames.{numberOf}
 use Rattle.station.specs.Stations.{stateOf, answered, moved, unless}
 use Rattle.station.specs.Start.{started, startRule}
 use Rattle.station.specs.Heard.{acknowledged, heard, checks, frameRule}
 use Rattle.station.specs.Timer.{again, timerRule}
 use Rattle.station.specs.Queue.{newMessage, accepted, queueNumber, queueRule}
 use Rattle.station.specs.Take.{taking, takeRule}
-use Rattle.station.specs.Whole.{apart, whole}
-use Rattle.station.specs.declared.moves.Event.{Event}
-use Rattle.station.specs.declared.moves.Event.the-variants.{Start, Heard, Queue, Take}
-use Rattle.station.specs.declared.list.Message.{Message}
-use Rattle.station.specs.declared.frame.Whom.{Whom}
-use Rattle.station.specs.declared.frame.Whom.the-variants.{Nobody}
-use Rattle.station.specs.declared.frame.Frame.{Frame}
+use Rattle.wholeness.specs.Whole.{apart, whole}
+use Rattle.parts.specs.declared.moves.Event.{Event}
+use Rattle.parts.specs.declared.moves.Event.the-variants.{Start, Heard, Queue, Take}
+use Rattle.parts.specs.declared.list.Message.{Message}
+use Rattle.parts.specs.declared.frame.Whom.{Whom}
+use Rattle.parts.specs.declared.frame.Whom.the-variants.{Nobody}
+use Rattle.parts.specs.declared.frame.Frame.{Frame}
 use Rattle.station.specs.declared.station.Station.{Station}
 use Rattle.station.specs.declared.station.Answer.{Answer}
 use Rattle.station_theorems.proofs.Laws.Telling.{pick-either}

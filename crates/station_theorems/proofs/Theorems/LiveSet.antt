@@ -6,11 +6,11 @@ use Prim.Native.Nat.{ℕ, _<_, _≤_}
 use lib.Dec.{eqb}
 use lib.ListN.{length}
 use borrow.Author.Tests.{eqb-true, eqb-false, ne-eqb, not-true}
-use Rattle.station.specs.Live.{liveAt, successor}
-use Rattle.station.specs.Whole.{ownSeat, otherSeat, seatsGood, companyGood}
-use Rattle.station.specs.declared.moves.State.{State}
-use Rattle.station.specs.declared.moves.State.the-variants.{Offline, Idle, Waiting, Alone, Excluded}
-use Rattle.station.specs.declared.live.Live.{Live}
+use Rattle.parts.specs.Live.{liveAt, successor}
+use Rattle.wholeness.specs.Whole.{ownSeat, otherSeat, seatsGood, companyGood}
+use Rattle.parts.specs.declared.moves.State.{State}
+use Rattle.parts.specs.declared.moves.State.the-variants.{Offline, Idle, Waiting, Alone, Excluded}
+use Rattle.parts.specs.declared.live.Live.{Live}
 use Rattle.station_theorems.proofs.Laws.Seats.{Seats, seated, seating}
 use Rattle.station_theorems.proofs.Theorems.Successor.{successor-is}
 

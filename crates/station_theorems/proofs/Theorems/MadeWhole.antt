@@ -8,15 +8,15 @@ use native.Mathlib.Omega.{arith}
 use lib.Dec.{leb, eqb}
 use lib.ListN.{replicate, length-append, length-replicate}
 use borrow.Author.Tests.{le-leb, lt-leb, leb-true, leb-false}
-use Rattle.station.specs.Choose.{pick}
-use Rattle.station.specs.Messages.{none, pack}
-use Rattle.station.specs.Live.{full, seats}
+use Rattle.parts.specs.Choose.{pick}
+use Rattle.parts.specs.Messages.{none, pack}
+use Rattle.parts.specs.Live.{full, seats}
 use Rattle.station.specs.Stations.{made}
-use Rattle.station.specs.Whole.{ownSeat, otherSeat, seatGood, seatsGood, companyGood, listGood, waitersGood, awaitedGood}
-use Rattle.station.specs.declared.moves.State.the-variants.{Offline}
-use Rattle.station.proofs.Laws.Choose.{pick-true, pick-false}
+use Rattle.wholeness.specs.Whole.{ownSeat, otherSeat, seatGood, seatsGood, companyGood, listGood, waitersGood, awaitedGood}
+use Rattle.parts.specs.declared.moves.State.the-variants.{Offline}
+use Rattle.parts.proofs.Laws.Choose.{pick-true, pick-false}
 use Rattle.station_theorems.proofs.Laws.Tests.{both, each-none}
-use Rattle.station.proofs.Laws.Live.{seats-inside, seats-all, seats-most}
+use Rattle.parts.proofs.Laws.Live.{seats-inside, seats-all, seats-most}
 use Rattle.station_theorems.proofs.Laws.Kept.{list-made, apart-end, pack-rest}
 use Rattle.station_theorems.proofs.Laws.Based.{ring-good}
 use Rattle.station_theorems.proofs.Laws.Sound.{Shaped, Sound, WholeStation, whole-station}

@@ -3,15 +3,15 @@ use mathlib.Core.Path.{_≡_, refl}
 use mathlib.Core.Bool.{Bool, true, false}
 use Prim.Native.Nat.{ℕ}
 use lib.Dec.{eqb}
-use Rattle.station.specs.Choose.{pick}
-use Rattle.station.specs.Messages.{none}
+use Rattle.parts.specs.Choose.{pick}
+use Rattle.parts.specs.Messages.{none}
 use Rattle.station.specs.Stations.{answered, moved, unless}
 use Rattle.station.specs.Start.{started, startRule}
 use Rattle.station.specs.Queue.{accepted, queueRule}
 use Rattle.station.specs.Take.{taking, takeRule}
-use Rattle.station.specs.declared.list.Message.{Message}
-use Rattle.station.specs.declared.moves.Event.{Event}
-use Rattle.station.specs.declared.frame.Whom.the-variants.{Nobody}
+use Rattle.parts.specs.declared.list.Message.{Message}
+use Rattle.parts.specs.declared.moves.Event.{Event}
+use Rattle.parts.specs.declared.frame.Whom.the-variants.{Nobody}
 use Rattle.station.specs.declared.station.Station.{Station}
 use Rattle.station.specs.declared.station.Answer.{Answer}
 

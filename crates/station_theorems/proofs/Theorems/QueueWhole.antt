@@ -6,25 +6,25 @@ use Prim.Native.Nat.{ℕ, _<_}
 use native.Mathlib.Omega.{arith}
 use lib.ListN.{length, length-take}
 use borrow.Author.Tests.{lt-ltb, le-leb, ne-eqb}
-use Rattle.station.specs.Choose.{pick, every}
-use Rattle.station.specs.Moves.{isExcluded}
-use Rattle.station.specs.Messages.{all, flies, pushed, hasPlace, lowestFree, best, bestOf, noBest}
-use Rattle.station.specs.Live.{liveAt}
+use Rattle.parts.specs.Choose.{pick, every}
+use Rattle.parts.specs.Moves.{isExcluded}
+use Rattle.parts.specs.Messages.{all, flies, pushed, hasPlace, lowestFree, best, bestOf, noBest}
+use Rattle.parts.specs.Live.{liveAt}
 use Rattle.station.specs.Queue.{newMessage, accepted, queueNumber, queueRule}
-use Rattle.station.specs.Whole.{messageGood, waitsWell, waitersGood, carried, awaitedGood, sameMessage}
-use Rattle.station.specs.declared.moves.State.{State}
-use Rattle.station.specs.declared.live.Live.{Live}
-use Rattle.station.specs.declared.list.Message.{Message}
-use Rattle.station.specs.declared.list.Messages.{Messages}
-use Rattle.station.specs.declared.list.Flight.{Flight}
-use Rattle.station.specs.declared.list.Best.{Best}
-use Rattle.station.specs.declared.list.Which.the-variants.{HasPlace}
-use Rattle.station.specs.declared.frame.Frame.{Frame}
-use Rattle.station.specs.declared.frame.Frame.the-variants.{Token, Transmit, Information}
-use Rattle.station.specs.declared.frame.Dispatch.{Dispatch}
-use Rattle.station.specs.declared.frame.Dispatch.the-variants.{Nothing, Sent}
+use Rattle.wholeness.specs.Whole.{messageGood, waitsWell, waitersGood, carried, awaitedGood, sameMessage}
+use Rattle.parts.specs.declared.moves.State.{State}
+use Rattle.parts.specs.declared.live.Live.{Live}
+use Rattle.parts.specs.declared.list.Message.{Message}
+use Rattle.parts.specs.declared.list.Messages.{Messages}
+use Rattle.parts.specs.declared.list.Flight.{Flight}
+use Rattle.parts.specs.declared.list.Best.{Best}
+use Rattle.parts.specs.declared.list.Which.the-variants.{HasPlace}
+use Rattle.parts.specs.declared.frame.Frame.{Frame}
+use Rattle.parts.specs.declared.frame.Frame.the-variants.{Token, Transmit, Information}
+use Rattle.parts.specs.declared.frame.Dispatch.{Dispatch}
+use Rattle.parts.specs.declared.frame.Dispatch.the-variants.{Nothing, Sent}
 use Rattle.station.specs.declared.station.Station.{Station}
-use Rattle.station.proofs.Laws.Choose.{pick-true, pick-false}
+use Rattle.parts.proofs.Laws.Choose.{pick-true, pick-false}
 use Rattle.station_theorems.proofs.Laws.Places.{lowest-free-free, lowest-free-room}
 use Rattle.station.proofs.Laws.Queue.{queue-good}
 use Rattle.station_theorems.proofs.Laws.Tests.{held, hold, each-snoc}

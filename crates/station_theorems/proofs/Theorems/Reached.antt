@@ -3,14 +3,14 @@
 use mathlib.Core.Path.{_≡_, sym, subst}
 use mathlib.Core.Bool.{true}
 use Prim.Native.Nat.{ℕ, _<_, _≤_}
-use Rattle.station.specs.Frames.{fit}
+use Rattle.parts.specs.Frames.{fit}
 use Rattle.station.specs.Stations.{made}
 use Rattle.station.specs.Start.{startRule}
 use Rattle.station.specs.Heard.{frameRule}
 use Rattle.station.specs.Timer.{timerRule}
 use Rattle.station.specs.Queue.{queueRule}
 use Rattle.station.specs.Take.{takeRule}
-use Rattle.station.specs.declared.frame.Frame.{Frame}
+use Rattle.parts.specs.declared.frame.Frame.{Frame}
 use Rattle.station.specs.declared.station.Station.{Station}
 use Rattle.station_theorems.proofs.Laws.Sound.{WholeStation}
 use Rattle.station_theorems.proofs.Theorems.MadeWhole.{made-whole}

@@ -5,22 +5,22 @@ use mathlib.Core.Bool.{Bool, true, false}
 use Prim.Native.Nat.{ℕ}
 use native.Mathlib.Omega.{arith}
 use lib.Dec.{eqb, ltb}
-use Rattle.station.specs.Choose.{pick}
-use Rattle.station.specs.Messages.{none}
-use Rattle.station.specs.Frames.{numberOf}
+use Rattle.parts.specs.Choose.{pick}
+use Rattle.parts.specs.Messages.{none}
+use Rattle.parts.specs.Frames.{numberOf}
 use Rattle.station.specs.Stations.{stateOf, awaitedOf, answered, moved, unless, alone}
 use Rattle.station.specs.Start.{started, startRule}
 use Rattle.station.specs.Heard.{nothingMore, handle, respond, heard, frameRule}
 use Rattle.station.specs.Timer.{afterStrike, silence, onTimer, timerRule}
 use Rattle.station.specs.Queue.{accepted, queueRule}
 use Rattle.station.specs.Take.{taking, takeRule}
-use Rattle.station.specs.declared.moves.State.the-variants.{Idle}
-use Rattle.station.specs.declared.moves.Event.{Event}
-use Rattle.station.specs.declared.moves.Event.the-variants.{Timer}
-use Rattle.station.specs.declared.frame.Whom.the-variants.{Nobody}
-use Rattle.station.specs.declared.frame.Frame.{Frame}
-use Rattle.station.specs.declared.frame.Dispatch.{Dispatch}
-use Rattle.station.specs.declared.frame.Dispatch.the-variants.{Nothing, Sent}
+use Rattle.parts.specs.declared.moves.State.the-variants.{Idle}
+use Rattle.parts.specs.declared.moves.Event.{Event}
+use Rattle.parts.specs.declared.moves.Event.the-variants.{Timer}
+use Rattle.parts.specs.declared.frame.Whom.the-variants.{Nobody}
+use Rattle.parts.specs.declared.frame.Frame.{Frame}
+use Rattle.parts.specs.declared.frame.Dispatch.{Dispatch}
+use Rattle.parts.specs.declared.frame.Dispatch.the-variants.{Nothing, Sent}
 use Rattle.station.specs.declared.rules.strike.Struck.{Struck}
 use Rattle.station.specs.declared.station.Station.{Station}
 use Rattle.station.specs.declared.station.Payload.the-variants.{NoPayload}

@@ -6,24 +6,24 @@ use Prim.Native.Nat.{ℕ, _+_, _<_, _≤_}
 use lib.Dec.{eqb}
 use borrow.Author.Tests.{ne-eqb}
 use Rattle.codec.specs.Order.{firstOf}
-use Rattle.station.specs.Moves.{moveOf}
-use Rattle.station.specs.Live.{liveAt}
-use Rattle.station.specs.Messages.{none}
-use Rattle.station.specs.Frames.{numberOf, failingOf}
+use Rattle.parts.specs.Moves.{moveOf}
+use Rattle.parts.specs.Live.{liveAt}
+use Rattle.parts.specs.Messages.{none}
+use Rattle.parts.specs.Frames.{numberOf, failingOf}
 use Rattle.station.specs.Stations.{stateOf, awaitedOf, alone}
 use Rattle.station.specs.Strike.{newly, strike, giveUpTo, told}
 use Rattle.station.specs.Heard.{acknowledged, acknowledge, strikeOther, strikeHeard, failed, isLast, nothingMore, respond, heard, checks, frameRule, silent}
 use Rattle.station.specs.Timer.{unanswered, afterStrike, timerRule}
-use Rattle.station.specs.declared.moves.State.the-variants.{Waiting}
-use Rattle.station.specs.declared.moves.Event.the-variants.{Heard}
-use Rattle.station.specs.declared.frame.Whom.the-variants.{Nobody, Member}
-use Rattle.station.specs.declared.frame.Frame.{Frame}
-use Rattle.station.specs.declared.frame.Dispatch.the-variants.{Nothing, Sent}
+use Rattle.parts.specs.declared.moves.State.the-variants.{Waiting}
+use Rattle.parts.specs.declared.moves.Event.the-variants.{Heard}
+use Rattle.parts.specs.declared.frame.Whom.the-variants.{Nobody, Member}
+use Rattle.parts.specs.declared.frame.Frame.{Frame}
+use Rattle.parts.specs.declared.frame.Dispatch.the-variants.{Nothing, Sent}
 use Rattle.station.specs.declared.station.Station.{Station}
 use Rattle.station.specs.declared.station.Turn.{Turn}
 use Rattle.station.specs.declared.station.Answer.{Answer}
 use Rattle.station.specs.declared.rules.strike.Struck.{Struck}
-use Rattle.station.proofs.Laws.Choose.{pick-true, pick-false}
+use Rattle.parts.proofs.Laws.Choose.{pick-true, pick-false}
 use Rattle.station.proofs.Laws.Heard.{frame-runs}
 use Rattle.station.proofs.Laws.Timer.{timer-again, timer-last}
 use Rattle.station_theorems.proofs.Laws.Telling.{struck-not-live, newly-not, gives-up-to}

@@ -5,17 +5,17 @@ use Prim.Native.Nat.{ℕ, _<_, _≤_}
 use native.Mathlib.Omega.{arith}
 use lib.Dec.{eqb}
 use borrow.Author.Tests.{eqb-true, eqb-false}
-use Rattle.station.specs.Choose.{pick}
-use Rattle.station.specs.Moves.{isWaiting, isExcluded}
-use Rattle.station.specs.Live.{liveAt, successor}
-use Rattle.station.specs.Frames.{noFlight}
+use Rattle.parts.specs.Choose.{pick}
+use Rattle.parts.specs.Moves.{isWaiting, isExcluded}
+use Rattle.parts.specs.Live.{liveAt, successor}
+use Rattle.parts.specs.Frames.{noFlight}
 use Rattle.station.specs.Stations.{stateOf, awaitedOf, alone, answered, quiet}
 use Rattle.station.specs.Round.{sight, startRound}
 use Rattle.station.specs.Start.{sentFirst, started, startRule}
-use Rattle.station.specs.Whole.{ownSeat, otherSeat}
-use Rattle.station.specs.declared.moves.State.the-variants.{Offline, Idle}
-use Rattle.station.specs.declared.live.Live.{Live}
-use Rattle.station.specs.declared.frame.Whom.the-variants.{Nobody}
+use Rattle.wholeness.specs.Whole.{ownSeat, otherSeat}
+use Rattle.parts.specs.declared.moves.State.the-variants.{Offline, Idle}
+use Rattle.parts.specs.declared.live.Live.{Live}
+use Rattle.parts.specs.declared.frame.Whom.the-variants.{Nobody}
 use Rattle.station.specs.declared.station.Station.{Station}
 use Rattle.station_theorems.proofs.Laws.States.{starts}
 use Rattle.station_theorems.proofs.Laws.Seats.{Seats, seated}

@@ -3,19 +3,19 @@
 use mathlib.Core.Path.{_≡_, sym, ap, _∙_}
 use mathlib.Core.Bool.{true}
 use Prim.Native.Nat.{ℕ, _≤_}
-use Rattle.station.specs.Moves.{moveOf, runs}
-use Rattle.station.specs.Live.{liveAt, without}
-use Rattle.station.specs.Frames.{failingOf}
+use Rattle.parts.specs.Moves.{moveOf, runs}
+use Rattle.parts.specs.Live.{liveAt, without}
+use Rattle.parts.specs.Frames.{failingOf}
 use Rattle.station.specs.Stations.{stateOf, awaitedOf}
 use Rattle.station.specs.Strike.{newly}
 use Rattle.station.specs.Heard.{heard, checks, frameRule}
 use Rattle.station.specs.Timer.{timerRule}
-use Rattle.station.specs.declared.moves.State.the-variants.{Waiting}
-use Rattle.station.specs.declared.moves.Event.the-variants.{Heard}
-use Rattle.station.specs.declared.frame.Whom.{Whom}
-use Rattle.station.specs.declared.frame.Whom.the-variants.{Nobody, Member}
-use Rattle.station.specs.declared.frame.Frame.{Frame}
-use Rattle.station.specs.declared.frame.Dispatch.the-variants.{Sent}
+use Rattle.parts.specs.declared.moves.State.the-variants.{Waiting}
+use Rattle.parts.specs.declared.moves.Event.the-variants.{Heard}
+use Rattle.parts.specs.declared.frame.Whom.{Whom}
+use Rattle.parts.specs.declared.frame.Whom.the-variants.{Nobody, Member}
+use Rattle.parts.specs.declared.frame.Frame.{Frame}
+use Rattle.parts.specs.declared.frame.Dispatch.the-variants.{Sent}
 use Rattle.station.specs.declared.station.Station.{Station}
 use Rattle.station.specs.declared.station.Answer.{Answer}
 use Rattle.station.proofs.Laws.Heard.{frame-runs}

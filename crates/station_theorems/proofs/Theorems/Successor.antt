@@ -6,9 +6,9 @@ use native.Mathlib.Nat.{mod-lt, mod-eq-of-lt, mod-self, mod-add-mod, mod-eq-sub-
 use native.Mathlib.Omega.{arith}
 use lib.Dec.{ltb, eqb}
 use borrow.Author.Tests.{ltb-true, ltb-false, eqb-true, eqb-false}
-use Rattle.station.specs.declared.live.Live.{Live}
-use Rattle.station.specs.Live.{liveAt, after, seek, successor}
-use Rattle.station.proofs.Laws.Live.{after-inside, after-last, seek-none, seek-here, seek-further}
+use Rattle.parts.specs.declared.live.Live.{Live}
+use Rattle.parts.specs.Live.{liveAt, after, seek, successor}
+use Rattle.parts.proofs.Laws.Live.{after-inside, after-last, seek-none, seek-here, seek-further}
 
 -- the position k steps after own on a ring of n
 abbrev pub onward : ℕ → ℕ → ℕ → ℕ

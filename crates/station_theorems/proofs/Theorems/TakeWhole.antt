@@ -2,12 +2,12 @@
 use mathlib.Core.Bool.{Bool, not}
 use Prim.Native.Nat.{ℕ}
 use native.Mathlib.Omega.{arith}
-use Rattle.station.specs.Messages.{all, only, fits, splitBy}
+use Rattle.parts.specs.Messages.{all, only, fits, splitBy}
 use Rattle.station.specs.Take.{taking, takeRule}
-use Rattle.station.specs.declared.list.Message.{Message}
-use Rattle.station.specs.declared.list.Which.the-variants.{HasPlace}
+use Rattle.parts.specs.declared.list.Message.{Message}
+use Rattle.parts.specs.declared.list.Which.the-variants.{HasPlace}
 use Rattle.station.specs.declared.station.Station.{Station}
-use Rattle.station.proofs.Laws.Messages.{only-length}
+use Rattle.parts.proofs.Laws.Messages.{only-length}
 use Rattle.station_theorems.proofs.Laws.Kept.{list-only, list-length, pack-length}
 use Rattle.station_theorems.proofs.Laws.Sound.{Sound, WholeStation, whole-sound, whole-station, moved-sound, unless-sound}
 

@@ -6,22 +6,22 @@ use mathlib.Core.List.{List, [], _++_, append-nil}
 use Prim.Native.Nat.{ℕ, _≤_}
 use lib.ListN.{length}
 use borrow.Author.Tests.{eq-eqb, ne-eqb}
-use Rattle.station.specs.Moves.{moveOf, runs}
-use Rattle.station.specs.Messages.{all, flies, fits, only}
-use Rattle.station.specs.Frames.{numberOf, flight, failingOf}
+use Rattle.parts.specs.Moves.{moveOf, runs}
+use Rattle.parts.specs.Messages.{all, flies, fits, only}
+use Rattle.parts.specs.Frames.{numberOf, flight, failingOf}
 use Rattle.station.specs.Stations.{stateOf, awaitedOf, alone}
 use Rattle.station.specs.Strike.{strike}
 use Rattle.station.specs.Heard.{acknowledged, checks, frameRule}
 use Rattle.station.specs.Timer.{timerRule}
-use Rattle.station.specs.declared.moves.Event.the-variants.{Heard}
-use Rattle.station.specs.declared.list.Message.{Message}
-use Rattle.station.specs.declared.list.Which.the-variants.{WaitingFor}
-use Rattle.station.specs.declared.frame.Whom.{Whom}
-use Rattle.station.specs.declared.frame.Whom.the-variants.{Nobody, Member}
-use Rattle.station.specs.declared.frame.Frame.{Frame}
+use Rattle.parts.specs.declared.moves.Event.the-variants.{Heard}
+use Rattle.parts.specs.declared.list.Message.{Message}
+use Rattle.parts.specs.declared.list.Which.the-variants.{WaitingFor}
+use Rattle.parts.specs.declared.frame.Whom.{Whom}
+use Rattle.parts.specs.declared.frame.Whom.the-variants.{Nobody, Member}
+use Rattle.parts.specs.declared.frame.Frame.{Frame}
 use Rattle.station.specs.declared.station.Station.{Station}
 use Rattle.station.specs.declared.station.Answer.{Answer}
-use Rattle.station.proofs.Laws.Choose.{pick-true, pick-false}
+use Rattle.parts.proofs.Laws.Choose.{pick-true, pick-false}
 use Rattle.station.proofs.Laws.Heard.{frame-runs}
 use Rattle.station.proofs.Laws.Timer.{timer-last}
 use Rattle.station_theorems.proofs.Laws.Only.{only-nothing}

@@ -4,22 +4,22 @@ use mathlib.Core.Bool.{Bool, true, false, false≢true, _||_}
 use mathlib.Core.List.{List, List·Memᴰ}
 use Prim.Native.Nat.{ℕ, _≤_}
 use borrow.Author.Tests.{leb-true, le-leb, eqb-true, eq-eqb}
-use Rattle.station.specs.Choose.{pick, every}
-use Rattle.station.specs.Moves.{isExcluded}
-use Rattle.station.specs.Messages.{all, flies}
-use Rattle.station.specs.Live.{liveAt}
-use Rattle.station.specs.Frames.{flight}
+use Rattle.parts.specs.Choose.{pick, every}
+use Rattle.parts.specs.Moves.{isExcluded}
+use Rattle.parts.specs.Messages.{all, flies}
+use Rattle.parts.specs.Live.{liveAt}
+use Rattle.parts.specs.Frames.{flight}
 use Rattle.station.specs.Stations.{stateOf, awaitedOf}
-use Rattle.station.specs.Whole.{waitsWell, waitersGood, whole}
-use Rattle.station.specs.declared.moves.State.{State}
-use Rattle.station.specs.declared.moves.State.the-variants.{Excluded}
-use Rattle.station.specs.declared.live.Live.{Live}
-use Rattle.station.specs.declared.list.Message.{Message}
-use Rattle.station.specs.declared.frame.Frame.the-variants.{Token, Transmit, Information}
-use Rattle.station.specs.declared.frame.Dispatch.{Dispatch}
-use Rattle.station.specs.declared.frame.Dispatch.the-variants.{Nothing, Sent}
+use Rattle.wholeness.specs.Whole.{waitsWell, waitersGood, whole}
+use Rattle.parts.specs.declared.moves.State.{State}
+use Rattle.parts.specs.declared.moves.State.the-variants.{Excluded}
+use Rattle.parts.specs.declared.live.Live.{Live}
+use Rattle.parts.specs.declared.list.Message.{Message}
+use Rattle.parts.specs.declared.frame.Frame.the-variants.{Token, Transmit, Information}
+use Rattle.parts.specs.declared.frame.Dispatch.{Dispatch}
+use Rattle.parts.specs.declared.frame.Dispatch.the-variants.{Nothing, Sent}
 use Rattle.station.specs.declared.station.Station.{Station}
-use Rattle.station.proofs.Laws.Choose.{pick-true, pick-false}
+use Rattle.parts.proofs.Laws.Choose.{pick-true, pick-false}
 use Rattle.station_theorems.proofs.Laws.States.{excluded-is}
 use Rattle.station_theorems.proofs.Laws.Kept.{list-apart}
 use Rattle.station_theorems.proofs.Laws.Members.{each-member, each-of}

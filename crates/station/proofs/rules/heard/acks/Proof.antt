@@ -1,6 +1,6 @@
 -- `heard::acks` meets its contract: the awaited frame's constructor and the tests decide.
 use borrow.Author.Tests.{eq-eqb, ne-eqb}
-use Rattle.station.specs.Choose.{pick}
+use Rattle.parts.specs.Choose.{pick}
 use Rattle.station.specs.Heard.{acknowledges}
 use borrow.Author.Needs.{needs}
 use Rattle.station.proofs.rules.heard.acks.Statement.{statement}

@@ -1,7 +1,7 @@
 -- `heard::is_acknowledged` meets its contract: only a Waiting station is acknowledged.
 use mathlib.Core.Path.{sym, _∙_}
 use Rattle.station.specs.Heard.{acknowledged}
-use Rattle.station.proofs.Laws.Choose.{pick-true, pick-false}
+use Rattle.parts.proofs.Laws.Choose.{pick-true, pick-false}
 use borrow.Author.Needs.{needs}
 use Rattle.station.proofs.rules.heard.is_acknowledged.Statement.{statement}
 use Rattle.station.proofs.rules.heard.is_acknowledged.Tie as tie

@@ -3,8 +3,8 @@ use mathlib.Core.Path.{sym, ap, _∙_}
 use Rattle.station.specs.Heard.{acknowledge}
 use Rattle.station.specs.Stations.{quiet}
 use Rattle.station.specs.declared.station.Station.{Station}
-use Rattle.station.specs.declared.moves.State.the-variants.{Idle}
-use Rattle.station.proofs.Laws.Choose.{pick-true, pick-false}
+use Rattle.parts.specs.declared.moves.State.the-variants.{Idle}
+use Rattle.parts.proofs.Laws.Choose.{pick-true, pick-false}
 use borrow.Author.Needs.{needs}
 use Rattle.station.proofs.rules.heard.take_ack.Statement.{statement}
 use Rattle.station.proofs.rules.heard.take_ack.Tie as tie

@@ -1,6 +1,6 @@
 -- `round::grant_to` meets its contract: one test, whether the named station is live.
 use mathlib.Core.Path.{sym, _∙_}
-use Rattle.station.proofs.Laws.Choose.{pick-true, pick-false}
+use Rattle.parts.proofs.Laws.Choose.{pick-true, pick-false}
 use Rattle.station.specs.Round.{grant}
 use borrow.Author.Needs.{needs}
 use Rattle.station.proofs.rules.round.grant_to.Statement.{statement}

@@ -1,6 +1,6 @@
 -- `round::head_priority` meets its contract: one test.
 use mathlib.Core.Path.{sym}
-use Rattle.station.proofs.Laws.Choose.{pick-true, pick-false}
+use Rattle.parts.proofs.Laws.Choose.{pick-true, pick-false}
 use Rattle.station.proofs.rules.round.head_priority.Statement.{statement}
 use Rattle.station.proofs.rules.round.head_priority.Tie as tie
 

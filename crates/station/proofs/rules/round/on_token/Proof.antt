@@ -1,7 +1,7 @@
 -- `round::on_token` meets its contract: one test, whether the token is this station's own.
 use mathlib.Core.Path.{sym, _∙_}
 use borrow.Author.Tests.{eq-eqb, ne-eqb}
-use Rattle.station.proofs.Laws.Choose.{pick-true, pick-false}
+use Rattle.parts.proofs.Laws.Choose.{pick-true, pick-false}
 use Rattle.station.specs.Round.{onToken}
 use borrow.Author.Needs.{needs}
 use Rattle.station.proofs.rules.round.on_token.Statement.{statement}

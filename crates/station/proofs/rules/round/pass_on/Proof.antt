@@ -1,6 +1,6 @@
 -- `round::pass_on` meets its contract: one test, whether the master is live.
 use mathlib.Core.Path.{sym, _∙_}
-use Rattle.station.proofs.Laws.Choose.{pick-true, pick-false}
+use Rattle.parts.proofs.Laws.Choose.{pick-true, pick-false}
 use Rattle.station.specs.Round.{passOn}
 use borrow.Author.Needs.{needs}
 use Rattle.station.proofs.rules.round.pass_on.Statement.{statement}

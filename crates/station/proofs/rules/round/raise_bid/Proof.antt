@@ -3,7 +3,7 @@ use mathlib.Core.Path.{sym, ap, _∙_}
 use Prim.Native.Nat.{ℕ}
 use lib.Dec.{ltb}
 use borrow.Author.Tests.{lt-ltb, le-ltb}
-use Rattle.station.proofs.Laws.Choose.{pick-true, pick-false}
+use Rattle.parts.proofs.Laws.Choose.{pick-true, pick-false}
 use Rattle.station.specs.Round.{raised}
 use borrow.Author.Needs.{needs}
 use Rattle.station.proofs.rules.round.raise_bid.Statement.{statement}

@@ -1,6 +1,6 @@
 -- `round::send_head` meets its contract: one test, whether there is a head.
 use mathlib.Core.Path.{sym, _∙_}
-use Rattle.station.proofs.Laws.Choose.{pick-true, pick-false}
+use Rattle.parts.proofs.Laws.Choose.{pick-true, pick-false}
 use Rattle.station.specs.Round.{sendHead}
 use borrow.Author.Needs.{needs}
 use Rattle.station.proofs.rules.round.send_head.Statement.{statement}

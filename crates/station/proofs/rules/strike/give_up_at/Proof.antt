@@ -1,7 +1,7 @@
 -- `strike::give_up_at` meets its contract: one test, whether there is a message at the place.
 use mathlib.Core.Path.{sym, ap, _∙_}
-use Rattle.station.specs.declared.list.Best.{Best}
-use Rattle.station.proofs.Laws.Choose.{pick-true, pick-false}
+use Rattle.parts.specs.declared.list.Best.{Best}
+use Rattle.parts.proofs.Laws.Choose.{pick-true, pick-false}
 use Rattle.station.specs.Strike.{giveUpAt}
 use borrow.Author.Needs.{needs}
 use Rattle.station.proofs.rules.strike.give_up_at.Statement.{statement}

@@ -1,7 +1,7 @@
 -- `strike::give_up_flight` meets its contract: one test, whether a message is in flight.
 use mathlib.Core.Path.{sym, ap, _∙_}
-use Rattle.station.specs.declared.list.Flight.{Flight}
-use Rattle.station.proofs.Laws.Choose.{pick-true, pick-false}
+use Rattle.parts.specs.declared.list.Flight.{Flight}
+use Rattle.parts.proofs.Laws.Choose.{pick-true, pick-false}
 use Rattle.station.specs.Strike.{giveUpFlight}
 use borrow.Author.Needs.{needs}
 use Rattle.station.proofs.rules.strike.give_up_flight.Statement.{statement}

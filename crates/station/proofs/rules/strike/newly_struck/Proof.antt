@@ -1,6 +1,6 @@
 -- `strike::newly_struck` meets its contract: one test, whether the station was live.
 use mathlib.Core.Path.{sym, _∙_}
-use Rattle.station.proofs.Laws.Choose.{pick-true, pick-false}
+use Rattle.parts.proofs.Laws.Choose.{pick-true, pick-false}
 use Rattle.station.specs.Strike.{newly}
 use borrow.Author.Needs.{needs}
 use Rattle.station.proofs.rules.strike.newly_struck.Statement.{statement}

@@ -2,7 +2,7 @@
 use mathlib.Core.Path.{sym, _∙_}
 use borrow.Author.Tests.{eq-eqb, ne-eqb}
 use Rattle.station.specs.Timer.{renamed}
-use Rattle.station.proofs.Laws.Choose.{pick-true, pick-false}
+use Rattle.parts.proofs.Laws.Choose.{pick-true, pick-false}
 use borrow.Author.Needs.{needs}
 use Rattle.station.proofs.rules.timer.rename.Statement.{statement}
 use Rattle.station.proofs.rules.timer.rename.Tie as tie

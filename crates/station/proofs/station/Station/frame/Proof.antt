@@ -1,7 +1,7 @@
 -- `Station::frame` meets its contract: the table of moves, then the checks, then the steps.
 use mathlib.Core.Path.{sym, _∙_}
 use Rattle.station.specs.Heard.{frameRule}
-use Rattle.station.specs.declared.moves.Event.the-variants.{Heard}
+use Rattle.parts.specs.declared.moves.Event.the-variants.{Heard}
 use Rattle.station.proofs.Laws.Moved.{moved-runs, moved-stops, unless-passes, unless-refuses}
 use borrow.Author.Needs.{needs}
 use Rattle.station.proofs.station.Station.frame.Statement.{statement}

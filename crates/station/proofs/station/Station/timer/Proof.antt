@@ -1,7 +1,7 @@
 -- `Station::timer` meets its contract: the table of moves, then the rule.
 use mathlib.Core.Path.{sym, _∙_}
 use Rattle.station.specs.Timer.{timerRule}
-use Rattle.station.specs.declared.moves.Event.the-variants.{Timer}
+use Rattle.parts.specs.declared.moves.Event.the-variants.{Timer}
 use Rattle.station.proofs.Laws.Moved.{moved-runs, moved-stops}
 use borrow.Author.Needs.{needs}
 use Rattle.station.proofs.station.Station.timer.Statement.{statement}

@@ -1,0 +1,5 @@
+-- Laws of the definitions of the parts that the functions' proofs use, one file for each.
+pub mod Choose
+pub mod Live
+pub mod Messages
+pub mod Moves

@@ -1,0 +1,287 @@
+-- Laws of messages and their lists. Assumes nothing.
+use mathlib.Core.Path.{_≡_, refl, sym, ap, _∙_}
+use mathlib.Core.Bool.{Bool, true, false, not}
+use mathlib.Core.List.{List, [], _∷_, _++_, append-nil, map}
+use Prim.Native.Nat.{ℕ, suc, _+_, _-_, _<_, _≤_}
+use native.Mathlib.Numerals.{add-one}
+use native.Mathlib.Omega.{arith}
+use lib.ListN.{getD, take, drop, set, length, replicate, length-take, length-append, length-map, drop-of-length-le}
+use lib.Seq.{getD-take, take-all, take-nil, drop-cons, take-suc, set-at, append-snoc}
+use lib.Dec.{ltb}
+use borrow.Author.Tests.{lt-ltb, le-ltb, eq-eqb, ne-eqb, ltb-true, ltb-false}
+use Rattle.parts.specs.Choose.{pick}
+use Rattle.parts.specs.declared.list.Message.{Message}
+use Rattle.parts.specs.declared.list.Messages.{Messages}
+use Rattle.parts.specs.declared.list.Best.{Best}
+use Rattle.parts.specs.declared.list.Parts.{Parts}
+use Rattle.parts.specs.declared.list.Which.{Which}
+use Rattle.parts.specs.Messages.{all, used, blank, none, pack, pushed, fits, only, sorted, theBest, betterOf, bestOf, hasPlace, freeFrom}
+use Rattle.parts.proofs.Laws.Choose.{pick-true, pick-false}
+
+-- what owning an array of structs tells of its list
+pub length-mapped : (X Y : Type 0) (f : X → Y) (l : List X) (n : ℕ) → length (map f l) ≡ n → length l ≡ n
+length-mapped X Y f l n p = sym (length-map l f) ∙ p
+
+-- ---- how many
+
+pub used-inside : (l : Messages) → l .len < 16 → used l ≡ l .len
+used-inside l h = pick-true (l .len) 16 (lt-ltb (l .len) 16 h)
+
+pub used-full : (l : Messages) → 16 ≤ l .len → used l ≡ 16
+used-full l h = pick-false (l .len) 16 (le-ltb (l .len) 16 h)
+
+pub used-most : (l : Messages) → (used l ≤ 16) × (used l ≤ l .len)
+used-most l = go (ltb (l .len) 16) refl
+  where
+    go : (b : Bool) → ltb (l .len) 16 ≡ b → (used l ≤ 16) × (used l ≤ l .len)
+    go true e =
+        let h : l .len < 16 = ltb-true (l .len) 16 e in
+        let u : used l ≡ l .len = used-inside l h in
+        omega arith
+    go false e =
+        let h : 16 ≤ l .len = ltb-false (l .len) 16 e in
+        let u : used l ≡ 16 = used-full l h in
+        omega arith
+
+-- ---- one message after the other, of the array of a list
+
+module _ (l : Messages) (full : length (l .items) ≡ 16) where
+  pub length-all : length (all l) ≡ used l
+  length-all = go (ltb (l .len) 16) refl
+    where
+      go : (b : Bool) → ltb (l .len) 16 ≡ b → length (all l) ≡ used l
+      go true e =
+          let h : l .len < 16 = ltb-true (l .len) 16 e in
+          length-take (l .len) (l .items) ∙ rw full (omega (arith, used-inside l h))
+      go false e =
+          let h : 16 ≤ l .len = ltb-false (l .len) 16 e in
+          length-take (l .len) (l .items) ∙ rw full (omega (arith, used-full l h))
+
+  pub message-at : (i : ℕ) → i < used l → getD (all l) i blank ≡ getD (l .items) i blank
+  message-at i h = getD-take (l .len) (l .items) i blank (omega (arith, used-most l))
+
+  pub all-from : (i : ℕ) → i < used l → drop i (all l) ≡ getD (l .items) i blank ∷ drop (i + 1) (all l)
+  all-from i h =
+      drop-cons (all l) i blank (omega (arith, length-all))
+      ∙ ap (λ (n : ℕ). getD (all l) i blank ∷ drop n (all l)) (sym (add-one i))
+      ∙ ap (λ (m : Message). m ∷ drop (i + 1) (all l)) (message-at i h)
+
+  pub all-to : (i : ℕ) → i < used l → take (i + 1) (all l) ≡ take i (all l) ++ (getD (l .items) i blank ∷ [])
+  all-to i h =
+      ap (λ (n : ℕ). take n (all l)) (add-one i)
+      ∙ take-suc (all l) i blank (omega (arith, length-all))
+      ∙ ap (λ (m : Message). take i (all l) ++ (m ∷ [])) (message-at i h)
+
+  pub none-from : (i : ℕ) → used l ≤ i → drop i (all l) ≡ []
+  none-from i h = drop-of-length-le (all l) {i = i} (omega (arith, length-all))
+
+  pub whole-to : (i : ℕ) → used l ≤ i → take i (all l) ≡ all l
+  whole-to i h = take-all i (all l) (omega (arith, length-all))
+
+-- ---- places
+
+pub place-none : (p : ℕ) → hasPlace [] p ≡ false
+unfolding hasPlace
+place-none p = refl
+
+module _ (m : Message) (ms : List Message) (p : ℕ) where
+  pub place-here : m .place ≡ p → hasPlace (m ∷ ms) p ≡ true
+  unfolding hasPlace
+  place-here e = pick-true true (hasPlace ms p) (eq-eqb (m .place) p e)
+
+  pub place-later : (m .place ≡ p → ⊥) → hasPlace (m ∷ ms) p ≡ hasPlace ms p
+  unfolding hasPlace
+  place-later n = pick-false true (hasPlace ms p) (ne-eqb (m .place) p n)
+
+-- the same as a loop over the first k of a list has it, where i are passed
+module _ (ms rest : List Message) (m : Message) (k i p : ℕ) where
+  pub turn-done : k ≤ i → hasPlace (take (k - i) ms) p ≡ false
+  turn-done h =
+      let none-left : k - i ≡ 0 = omega arith in
+      ap (λ (n : ℕ). hasPlace (take n ms) p) none-left ∙ place-none p
+
+  turn-open : i < k → ms ≡ m ∷ rest → take (k - i) ms ≡ m ∷ take (k - (i + 1)) rest
+  turn-open h e =
+      let one-left : k - i ≡ suc (k - (i + 1)) = omega arith in
+      rw (e, one-left)
+
+  pub turn-here : i < k → ms ≡ m ∷ rest → m .place ≡ p → hasPlace (take (k - i) ms) p ≡ true
+  turn-here h e q = ap (λ (l : List Message). hasPlace l p) (turn-open h e) ∙ place-here m (take (k - (i + 1)) rest) p q
+
+  pub turn-later : i < k → ms ≡ m ∷ rest → (m .place ≡ p → ⊥) → hasPlace (take (k - i) ms) p ≡ hasPlace (take (k - (i + 1)) rest) p
+  turn-later h e q = ap (λ (l : List Message). hasPlace l p) (turn-open h e) ∙ place-later m (take (k - (i + 1)) rest) p q
+
+pub turn-end : (ms : List Message) (k p : ℕ) → ms ≡ [] → hasPlace (take k ms) p ≡ false
+turn-end ms k p e = ap (λ (l : List Message). hasPlace (take k l) p) e ∙ ap (λ (l : List Message). hasPlace l p) (take-nil k) ∙ place-none p
+
+module _ (k p : ℕ) (ms : List Message) where
+  pub free-here : hasPlace ms p ≡ false → freeFrom (suc k) p ms ≡ p
+  unfolding freeFrom
+  free-here h = pick-false (freeFrom k (suc p) ms) p h
+
+  pub free-later : hasPlace ms p ≡ true → freeFrom (suc k) p ms ≡ freeFrom k (suc p) ms
+  unfolding freeFrom
+  free-later h = pick-true (freeFrom k (suc p) ms) p h
+
+pub free-none : (p : ℕ) (ms : List Message) → freeFrom 0 p ms ≡ p
+unfolding freeFrom
+free-none p ms = refl
+
+-- ---- the best
+
+module _ (w : Which) where
+  pub best-none : (b : Best) → bestOf w [] b ≡ b
+  unfolding bestOf
+  best-none b = refl
+
+  pub best-more : (m : Message) (ms : List Message) (b : Best) → bestOf w (m ∷ ms) b ≡ bestOf w ms (betterOf w b m)
+  unfolding bestOf
+  best-more m ms b = refl
+
+-- ---- the messages that a test takes
+
+module _ (f : Message → Bool) where
+  pub only-none : only f [] ≡ []
+  unfolding only
+  only-none = refl
+
+  pub only-one : (m : Message) (ms : List Message) → f m ≡ true → only f (m ∷ ms) ≡ m ∷ only f ms
+  unfolding only
+  only-one m ms e = pick-true (m ∷ only f ms) (only f ms) e
+
+  pub only-not : (m : Message) (ms : List Message) → f m ≡ false → only f (m ∷ ms) ≡ only f ms
+  unfolding only
+  only-not m ms e = pick-false (m ∷ only f ms) (only f ms) e
+
+  pub only-append : (ms ns : List Message) → only f (ms ++ ns) ≡ only f ms ++ only f ns
+  unfolding only
+  only-append [] ns = refl
+  only-append (m ∷ ms) ns = go (f m) (only-append ms ns)
+    where
+      go : (b : Bool) → only f (ms ++ ns) ≡ only f ms ++ only f ns
+          → pick b (m ∷ only f (ms ++ ns)) (only f (ms ++ ns)) ≡ pick b (m ∷ only f ms) (only f ms) ++ only f ns
+      go true e = pick-true (m ∷ only f (ms ++ ns)) (only f (ms ++ ns)) refl ∙ ap (λ (l : List Message). m ∷ l) e ∙ ap (λ (l : List Message). l ++ only f ns) (sym (pick-true (m ∷ only f ms) (only f ms) refl))
+      go false e = pick-false (m ∷ only f (ms ++ ns)) (only f (ms ++ ns)) refl ∙ e ∙ ap (λ (l : List Message). l ++ only f ns) (sym (pick-false (m ∷ only f ms) (only f ms) refl))
+
+  pub only-length : (ms : List Message) → length (only f ms) ≤ length ms
+  only-length [] = rw only-none (omega arith)
+  only-length (m ∷ ms) = go (f m) refl (only-length ms)
+    where
+      go : (b : Bool) → f m ≡ b → length (only f ms) ≤ length ms → length (only f (m ∷ ms)) ≤ suc (length ms)
+      go true e h = rw (only-one m ms e) (omega arith)
+      go false e h = rw (only-not m ms e) (omega arith)
+
+-- ---- a list's array
+
+pub pushed-inside : (l : Messages) (m : Message) → l .len < 16 → pushed l m ≡ record { items = set (l .items) (l .len) m; len = l .len + 1 }
+unfolding pushed
+pushed-inside l m h = pick-true (record { items = set (l .items) (l .len) m; len = l .len + 1 }) l (lt-ltb (l .len) 16 h)
+
+pub pushed-full : (l : Messages) (m : Message) → 16 ≤ l .len → pushed l m ≡ l
+unfolding pushed
+pushed-full l m h = pick-false (record { items = set (l .items) (l .len) m; len = l .len + 1 }) l (le-ltb (l .len) 16 h)
+
+pub pack-more : (ms : List Message) (m : Message) → length ms < 16 → pushed (pack ms) m ≡ pack (ms ++ (m ∷ []))
+unfolding pack
+pack-more ms m h =
+    let one : 16 - length ms ≡ suc (15 - length ms) = omega arith in
+    let longer : length (ms ++ (m ∷ [])) ≡ length ms + 1 = length-append ms (m ∷ []) in
+    let rest : 16 - (length ms + 1) ≡ 15 - length ms = omega arith in
+    pushed-inside (pack ms) m h
+    ∙ rw (longer, one, rest, set-at ms blank (replicate (15 - length ms) blank) m (length ms) refl, append-snoc)
+
+-- ---- one message more for the best
+
+module _ (w : Which) (b : Best) (m : Message) where
+  pub better-unfit : fits w m ≡ false → betterOf w b m ≡ b
+  unfolding betterOf
+  better-unfit e = pick-false _ b e
+
+  module _ (e : fits w m ≡ true) where
+    pub better-first : b .some ≡ false → betterOf w b m ≡ theBest m
+    unfolding betterOf
+    better-first f = pick-true _ b e ∙ pick-false _ (theBest m) f
+
+    pub better-higher : b .some ≡ true → b .message .priority < m .priority → betterOf w b m ≡ theBest m
+    unfolding betterOf
+    better-higher f h = pick-true _ b e ∙ pick-true _ (theBest m) f ∙ pick-true (theBest m) b (lt-ltb (b .message .priority) (m .priority) h)
+
+    pub better-kept : b .some ≡ true → m .priority ≤ b .message .priority → betterOf w b m ≡ b
+    unfolding betterOf
+    better-kept f h = pick-true _ b e ∙ pick-true _ (theBest m) f ∙ pick-false (theBest m) b (le-ltb (b .message .priority) (m .priority) h)
+
+-- ---- the two parts of a list
+
+abbrev pub parts : Which → List Message → Parts
+parts w ms = record { kept = pack (only (λ (m : Message). not (fits w m)) ms); gone = pack (only (fits w) ms) }
+
+module _ (w : Which) (d : Parts) (m : Message) (h : Messages) where
+  pub sorted-gone : fits w m ≡ true → h ≡ pushed (d .gone) m → record { kept = d .kept; gone = h } ≡ sorted w d m
+  sorted-gone e p = ap (λ (x : Messages). let r : Parts = record { kept = d .kept; gone = x } in r) p ∙ sym (pick-true _ _ e)
+
+  pub sorted-kept : fits w m ≡ false → h ≡ pushed (d .kept) m → record { kept = h; gone = d .gone } ≡ sorted w d m
+  sorted-kept e p = ap (λ (x : Messages). let r : Parts = record { kept = x; gone = d .gone } in r) p ∙ sym (pick-false _ _ e)
+
+pub parts-none : (w : Which) → parts w [] ≡ record { kept = none; gone = none }
+unfolding pack only
+parts-none w = refl
+
+pub parts-more : (w : Which) (ms : List Message) (m : Message) → length ms < 16 → sorted w (parts w ms) m ≡ parts w (ms ++ (m ∷ []))
+parts-more w ms m h = go (fits w m) refl
+  where
+    others : Message → Bool
+    others x = not (fits w x)
+
+    go : (b : Bool) → fits w m ≡ b → sorted w (parts w ms) m ≡ parts w (ms ++ (m ∷ []))
+    go true e =
+        let n : others m ≡ false = ap not e in
+        pick-true _ _ e
+        ∙ rw (
+          only-append others ms (m ∷ []),
+          only-append (fits w) ms (m ∷ []),
+          only-one (fits w) m [] e,
+          only-not others m [] n,
+          only-none others,
+          only-none (fits w),
+          append-nil,
+          pack-more (only (fits w) ms) m (omega (arith, only-length (fits w) ms)),
+        )
+    go false e =
+        let n : others m ≡ true = ap not e in
+        pick-false _ _ e
+        ∙ rw (
+          only-append others ms (m ∷ []),
+          only-append (fits w) ms (m ∷ []),
+          only-one others m [] n,
+          only-not (fits w) m [] e,
+          only-none others,
+          only-none (fits w),
+          append-nil,
+          pack-more (only others ms) m (omega (arith, only-length others ms)),
+        )
+
+-- a turn of the loop that sorts
+pub parts-turn : (w : Which) (ms ns : List Message) (m : Message) (d r : Parts) → length ms < 16 → ns ≡ ms ++ (m ∷ []) → d ≡ parts w ms → r ≡ sorted w d m → r ≡ parts w ns
+parts-turn w ms ns m d r h e f g = g ∙ ap (λ (x : Parts). sorted w x m) f ∙ parts-more w ms m h ∙ ap (parts w) (sym e)
+
+-- ---- the loop over places
+
+-- a list has at most sixteen messages
+pub sixteen : (l : Messages) → length (l .items) ≡ 16 → (p : ℕ) → hasPlace (take 16 (all l)) p ≡ hasPlace (all l) p
+sixteen l h p = ap (λ (ms : List Message). hasPlace ms p) (whole-to l h 16 (used-most l .0))
+
+module _ (n p : ℕ) (ms : List Message) where
+  pub turn-free : p < n → hasPlace ms p ≡ false → freeFrom (n - p) p ms ≡ p
+  turn-free h e =
+      let one-left : n - p ≡ suc (n - (p + 1)) = omega arith in
+      ap (λ (k : ℕ). freeFrom k p ms) one-left ∙ free-here (n - (p + 1)) p ms e
+
+  pub turn-taken : p < n → hasPlace ms p ≡ true → freeFrom (n - p) p ms ≡ freeFrom (n - (p + 1)) (p + 1) ms
+  turn-taken h e =
+      let one-left : n - p ≡ suc (n - (p + 1)) = omega arith in
+      ap (λ (k : ℕ). freeFrom k p ms) one-left ∙ free-later (n - (p + 1)) p ms e ∙ ap (λ (q : ℕ). freeFrom (n - (p + 1)) q ms) (sym (add-one p))
+
+  pub turn-all : n ≤ p → freeFrom (n - p) p ms ≡ p
+  turn-all h =
+      let none-left : n - p ≡ 0 = omega arith in
+      ap (λ (k : ℕ). freeFrom k p ms) none-left ∙ free-none p ms

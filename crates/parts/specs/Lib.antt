@@ -1,0 +1,5 @@
+pub mod Choose
+pub mod Moves
+pub mod Messages
+pub mod Live
+pub mod Frames

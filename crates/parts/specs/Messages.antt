@@ -1,0 +1,105 @@
+-- Messages and their lists.
+use mathlib.Core.Bool.{Bool, true, false, not, _&&_}
+use mathlib.Core.List.{List, [], _∷_, _++_}
+use Prim.Native.Nat.{ℕ, zero, suc, _+_, _-_}
+use lib.ListN.{take, set, replicate, length}
+use lib.Dec.{ltb, eqb}
+use Rattle.parts.specs.Choose.{pick}
+use Rattle.parts.specs.declared.list.Message.{Message}
+use Rattle.parts.specs.declared.list.Messages.{Messages}
+use Rattle.parts.specs.declared.list.Flight.{Flight}
+use Rattle.parts.specs.declared.list.Best.{Best}
+use Rattle.parts.specs.declared.list.Parts.{Parts}
+use Rattle.parts.specs.declared.list.Which.{Which}
+use Rattle.parts.specs.declared.list.Which.the-variants.{AnyWaiting, WaitingFor, HasPlace, OnChannel}
+
+-- the messages of a list, in order of acceptance
+abbrev pub all : Messages → List Message
+all l = take (l .len) (l .items)
+
+abbrev pub used : Messages → ℕ
+used l = pick (ltb (l .len) 16) (l .len) 16
+
+abbrev pub blank : Message
+blank = record { other = 0; priority = 0; channel = 0; length = 0; place = 0 }
+
+abbrev pub none : Messages
+none = record { items = replicate 16 blank; len = 0 }
+
+-- at most 16 messages as a list: the slots behind them are blank
+unfoldable pub pack : List Message → Messages
+pack ms = record { items = ms ++ replicate (16 - length ms) blank; len = length ms }
+
+-- one more joins at the end, where there is room
+unfoldable pub pushed : Messages → Message → Messages
+pushed l m = pick (ltb (l .len) 16) (record { items = set (l .items) (l .len) m; len = l .len + 1 }) l
+
+-- ---- which messages
+
+-- the message in flight is the one at the flight's place
+abbrev pub flies : Flight → Message → Bool
+flies f m = f .on && eqb (f .place) (m .place)
+
+-- a message waits unless it is in flight
+unfoldable pub fits : Which → Message → Bool
+fits (AnyWaiting f) m = not (flies f m)
+fits (WaitingFor f p) m = not (flies f m) && eqb (m .other) p
+fits (HasPlace p) m = eqb (m .place) p
+fits (OnChannel c) m = eqb (m .channel) c
+
+unfoldable pub only : (Message → Bool) → List Message → List Message
+only f [] = []
+only f (m ∷ ms) = pick (f m) (m ∷ only f ms) (only f ms)
+
+-- those that fit go, the others are kept, each part in order
+unfoldable pub splitBy : Which → Messages → Parts
+splitBy w l =
+    record {
+      kept = pack (only (λ (m : Message). not (fits w m)) (all l));
+      gone = pack (only (fits w) (all l));
+    }
+
+abbrev pub sorted : Which → Parts → Message → Parts
+sorted w d m =
+    pick (fits w m)
+    (record { kept = d .kept; gone = pushed (d .gone) m })
+    (record { kept = pushed (d .kept) m; gone = d .gone })
+
+-- ---- the best of those that fit: the highest priority, the earliest among equals
+
+abbrev pub noBest : Best
+noBest = record { some = false; message = blank }
+
+abbrev pub theBest : Message → Best
+theBest m = record { some = true; message = m }
+
+-- a message takes the best's place if there is none yet, or if its priority is higher
+unfoldable pub betterOf : Which → Best → Message → Best
+betterOf w b m =
+    pick (fits w m)
+    (pick (b .some)
+    (pick (ltb (b .message .priority) (m .priority)) (theBest m) b)
+    (theBest m))
+    b
+
+unfoldable pub bestOf : Which → List Message → Best → Best
+bestOf w [] b = b
+bestOf w (m ∷ ms) b = bestOf w ms (betterOf w b m)
+
+unfoldable pub best : Which → Messages → Best
+best w l = bestOf w (all l) noBest
+
+-- ---- places
+
+unfoldable pub hasPlace : List Message → ℕ → Bool
+hasPlace [] p = false
+hasPlace (m ∷ ms) p = pick (eqb (m .place) p) true (hasPlace ms p)
+
+-- the first of the k numbers from p on that is no message's place; p + k where each is one
+unfoldable pub freeFrom : ℕ → ℕ → List Message → ℕ
+freeFrom zero p ms = p
+freeFrom (suc k) p ms = pick (hasPlace ms p) (freeFrom k (suc p) ms) p
+
+-- "a payload goes into the lowest free place" of 16
+unfoldable pub lowestFree : List Message → ℕ
+lowestFree ms = freeFrom 16 0 ms

@@ -1,0 +1,5 @@
+// What a station is made of, over ring positions: lists of messages, the live set, the table of moves, frames.
+pub mod frame;
+pub mod list;
+pub mod live;
+pub mod moves;

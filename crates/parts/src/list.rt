@@ -1,0 +1,216 @@
+// Messages, and lists of at most 16 of them in order of acceptance.
+ghost use mathlib.Core.Path.{_≡_};
+ghost use lib.ListN.{take};
+ghost use Rattle.parts.specs.Messages.{
+  all,
+  used,
+  none,
+  pushed,
+  flies,
+  fits,
+  betterOf,
+  best,
+  sorted,
+  splitBy,
+  hasPlace,
+  lowestFree,
+};
+
+// A message: its other end (a ring position), and the place of its payload.
+pub struct Message {
+    pub other: u8,
+    pub priority: u8,
+    pub channel: u8,
+    pub length: u16,
+    pub place: u8,
+}
+
+// The first `len` items; the others are blank.
+pub struct Messages {
+    pub items: [Message; 16],
+    pub len: usize,
+}
+
+pub const BLANK: Message = Message {
+    other: 0,
+    priority: 0,
+    channel: 0,
+    length: 0,
+    place: 0,
+};
+
+// The place of the message in flight, if one is.
+pub struct Flight {
+    pub on: bool,
+    pub place: u8,
+}
+
+// A choice among messages.
+pub enum Which {
+    AnyWaiting(Flight),
+    WaitingFor(Flight, u8),
+    HasPlace(u8),
+    OnChannel(usize),
+}
+
+// The best message of those looked at, if there is one.
+pub struct Best {
+    pub some: bool,
+    pub message: Message,
+}
+
+// A list in two parts, each in order.
+pub struct Parts {
+    pub kept: Messages,
+    pub gone: Messages,
+}
+
+pub fn empty() -> Messages
+    ensures { λ r. ⌜ r ≡ none ⌝ }
+{
+    Messages {
+        items: [BLANK; 16],
+        len: 0,
+    }
+}
+
+// How many items are used: never more than there are.
+pub fn count(l: Messages) -> usize
+    ensures { λ r. ⌜ r ≡ used l ⌝ }
+{
+    if l.len < 16 { l.len } else { 16 }
+}
+
+// One more at the end, where there is room.
+pub fn push(l: Messages, m: Message) -> Messages
+    ensures { λ r. ⌜ r ≡ pushed l m ⌝ }
+{
+    let n = l.len;
+    if n < 16 {
+        let mut o = l;
+        o.items[n] = m;
+        o.len = n + 1;
+        return o;
+    }
+    l
+}
+
+pub fn in_flight(f: Flight, m: Message) -> bool
+    ensures { λ r. ⌜ r ≡ flies f m ⌝ }
+{
+    if f.on { f.place == m.place } else { false }
+}
+
+pub fn suits(w: Which, m: Message) -> bool
+    ensures { λ r. ⌜ r ≡ fits w m ⌝ }
+{
+    match w {
+        Which::AnyWaiting(f) => !in_flight(f, m),
+        Which::WaitingFor(f, p) => { if in_flight(f, m) { false } else { m.other == p } }
+        Which::HasPlace(p) => m.place == p,
+        Which::OnChannel(c) => m.channel as usize == c,
+    }
+}
+
+// What is best once `m` is looked at too: a later one has to be higher.
+pub fn better(b: Best, w: Which, m: Message) -> Best
+    ensures { λ r. ⌜ r ≡ betterOf w b m ⌝ }
+{
+    if !suits(w, m) {
+        return b;
+    }
+    if b.some {
+        if b.message.priority < m.priority {
+            return Best {
+                some: true,
+                message: m,
+            };
+        }
+        return b;
+    }
+    Best {
+        some: true,
+        message: m,
+    }
+}
+
+// The message of the highest priority among those that suit, the earliest of equals.
+pub fn choose(l: Messages, w: Which) -> Best
+    ensures { λ r. ⌜ r ≡ best w l ⌝ }
+{
+    let n = count(l);
+    let mut b = Best {
+        some: false,
+        message: BLANK,
+    };
+    let mut i: usize = 0;
+    while i < n {
+        let m = l.items[i];
+        b = better(b, w, m);
+        i += 1;
+    }
+    b
+}
+
+// Where one message goes.
+pub fn sort(d: Parts, w: Which, m: Message) -> Parts
+    ensures { λ r. ⌜ r ≡ sorted w d m ⌝ }
+{
+    let k = d.kept;
+    let g = d.gone;
+    if suits(w, m) {
+        let h = push(g, m);
+        return Parts { kept: k, gone: h };
+    }
+    let h = push(k, m);
+    Parts { kept: h, gone: g }
+}
+
+// Those that suit go, the others stay; both in order.
+pub fn split(l: Messages, w: Which) -> Parts
+    ensures { λ r. ⌜ r ≡ splitBy w l ⌝ }
+{
+    let n = count(l);
+    let e = empty();
+    let mut d = Parts { kept: e, gone: e };
+    let mut i: usize = 0;
+    while i < n {
+        let m = l.items[i];
+        d = sort(d, w, m);
+        i += 1;
+    }
+    d
+}
+
+// Whether one of the first `k` messages has the place `p`.
+pub fn has_place(l: Messages, k: usize, p: u8) -> bool
+    ensures { λ r. ⌜ r ≡ hasPlace (take k (all l)) p ⌝ }
+{
+    let n = count(l);
+    let mut i: usize = 0;
+    while i < n {
+        if k <= i {
+            return false;
+        }
+        let m = l.items[i];
+        if m.place == p {
+            return true;
+        }
+        i += 1;
+    }
+    false
+}
+
+// The lowest place, of 0 to 15, that no message has; 16 where each has one.
+pub fn lowest_free(l: Messages) -> u8
+    ensures { λ r. ⌜ r ≡ lowestFree (all l) ⌝ }
+{
+    let mut p: u8 = 0;
+    while p < 16 {
+        if !has_place(l, 16, p) {
+            break;
+        }
+        p += 1;
+    }
+    p
+}

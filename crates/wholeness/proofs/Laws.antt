@@ -1,0 +1,2 @@
+-- Laws of wholeness that the functions' proofs use.
+pub mod Whole

@@ -1,0 +1,2 @@
+// Whether a station is one that the rules can come to.
+pub mod whole;
