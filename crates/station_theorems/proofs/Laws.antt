@@ -1,5 +1,4 @@
 -- Laws that the theorems use, one idea a file.
-pub mod Tests
 pub mod Kept
 pub mod Carried
 pub mod Sound
@@ -20,3 +19,4 @@ pub mod Leaving
 pub mod Leaves
 pub mod Landed
 pub mod Fates
+pub mod Small

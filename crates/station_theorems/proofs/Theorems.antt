@@ -20,3 +20,4 @@ pub mod Whole
 pub mod Reached
 pub mod Leaving
 pub mod ToldInOrder
+pub mod StaysSmall

@@ -29,7 +29,7 @@ use Rattle.station.specs.declared.station.Handled.{Handled}
 use Rattle.station.specs.declared.station.Station.{Station}
 use Rattle.parts.proofs.Laws.Choose.{pick-false}
 use Rattle.station_theorems.proofs.Laws.States.{heard-cases}
-use Rattle.station_theorems.proofs.Laws.Tests.{held, hold, each-weaker}
+use Rattle.parts.proofs.Laws.Tests.{held, hold, each-weaker}
 use Rattle.station_theorems.proofs.Laws.Seats.{Seats, seated, seating}
 use Rattle.station_theorems.proofs.Theorems.Successor.{successor-is}
 use Rattle.station_theorems.proofs.Laws.Sound.{Shaped, Sound}

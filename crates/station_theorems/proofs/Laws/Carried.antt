@@ -13,7 +13,7 @@ use Rattle.parts.specs.declared.list.Best.{Best}
 use Rattle.parts.specs.declared.list.Which.{Which}
 use Rattle.parts.specs.declared.list.Which.the-variants.{HasPlace}
 use Rattle.parts.proofs.Laws.Messages.{place-none, place-here, place-later, best-none, best-more, better-unfit, better-first, only-none, only-one, only-not}
-use Rattle.station_theorems.proofs.Laws.Tests.{each-first, each-rest}
+use Rattle.parts.proofs.Laws.Tests.{each-first, each-rest}
 use Rattle.station_theorems.proofs.Laws.Kept.{place-left, place-right, place-append, apart-first, apart-rest}
 
 -- ---- one after the other

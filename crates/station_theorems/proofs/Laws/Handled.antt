@@ -25,7 +25,7 @@ use Rattle.station.specs.declared.rules.heard.Stored.{Stored}
 use Rattle.station.specs.declared.station.Station.{Station}
 use Rattle.station.specs.declared.station.Payload.the-variants.{NoPayload, Of}
 use Rattle.station_theorems.proofs.Laws.Places.{lowest-free-free, lowest-free-room}
-use Rattle.station_theorems.proofs.Laws.Tests.{hold}
+use Rattle.parts.proofs.Laws.Tests.{hold}
 use Rattle.station_theorems.proofs.Laws.Kept.{list-pushed, push-length}
 use Rattle.station_theorems.proofs.Laws.Seats.{Seats, seated}
 use Rattle.station_theorems.proofs.Laws.Based.{ringed, Based, based-on, idle-flight, sends-off}

@@ -15,7 +15,7 @@ use Rattle.wholeness.specs.Whole.{messageGood, apart, isBlank, listGood}
 use Rattle.parts.specs.declared.list.Message.{Message}
 use Rattle.parts.specs.declared.list.Messages.{Messages}
 use Rattle.parts.proofs.Laws.Messages.{place-none, only-none, only-one, only-not, only-length, pushed-inside}
-use Rattle.station_theorems.proofs.Laws.Tests.{held, hold, each-none, each-first, each-rest, each, each-snoc, each-same}
+use Rattle.parts.proofs.Laws.Tests.{held, hold, each-none, each-first, each-rest, each, each-snoc, each-same}
 
 -- ---- what passes a test among those that another test takes
 

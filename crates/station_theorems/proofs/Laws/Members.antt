@@ -10,7 +10,7 @@ use Rattle.parts.specs.Messages.{blank, hasPlace}
 use Rattle.wholeness.specs.Whole.{apart}
 use Rattle.parts.specs.declared.list.Message.{Message}
 use Rattle.parts.proofs.Laws.Messages.{place-none, place-here, place-later}
-use Rattle.station_theorems.proofs.Laws.Tests.{each-none, each-first, each-rest, each}
+use Rattle.parts.proofs.Laws.Tests.{each-none, each-first, each-rest, each}
 use Rattle.station_theorems.proofs.Laws.Kept.{place-left, place-right, place-append, apart-end, apart-first, apart-rest, apart-both}
 
 -- ---- what each passes

@@ -14,7 +14,7 @@ use Rattle.wholeness.specs.Whole.{ownSeat, otherSeat, seatGood, seatsGood}
 use Rattle.parts.specs.declared.moves.State.{State}
 use Rattle.parts.specs.declared.live.Live.{Live}
 use Rattle.parts.proofs.Laws.Choose.{pick-true, pick-false, pick-and}
-use Rattle.station_theorems.proofs.Laws.Tests.{both}
+use Rattle.parts.proofs.Laws.Tests.{both}
 
 -- ---- seat by seat
 

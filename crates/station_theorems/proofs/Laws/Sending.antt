@@ -25,7 +25,7 @@ use Rattle.parts.specs.declared.frame.Dispatch.the-variants.{Sent}
 use Rattle.station.specs.declared.rules.round.Bid.{Bid}
 use Rattle.station.specs.declared.station.Station.{Station}
 use Rattle.parts.proofs.Laws.Choose.{pick-false}
-use Rattle.station_theorems.proofs.Laws.Tests.{held, hold}
+use Rattle.parts.proofs.Laws.Tests.{held, hold}
 use Rattle.station_theorems.proofs.Laws.Kept.{list-messages, list-apart}
 use Rattle.station_theorems.proofs.Laws.Carried.{each-within, best-found}
 use Rattle.station_theorems.proofs.Theorems.Successor.{successor-is}

@@ -14,7 +14,7 @@ use Rattle.wholeness.specs.Whole.{ringGood, seatsGood, companyGood, listGood, l
 use Rattle.parts.specs.declared.moves.Event.{Event}
 use Rattle.station.specs.declared.station.Station.{Station}
 use Rattle.station.specs.declared.station.Answer.{Answer}
-use Rattle.station_theorems.proofs.Laws.Tests.{held, hold}
+use Rattle.parts.proofs.Laws.Tests.{held, hold}
 
 -- the arrays of a station have the lengths of their types
 pub record Shaped (s : Station) : Type 0 where

@@ -31,7 +31,7 @@ use Rattle.station.specs.declared.station.Station.{Station}
 use Rattle.parts.proofs.Laws.Choose.{pick-true, pick-false}
 use Rattle.parts.proofs.Laws.Messages.{only-length}
 use Rattle.station_theorems.proofs.Laws.States.{heard-cases}
-use Rattle.station_theorems.proofs.Laws.Tests.{held, hold, each-weaker}
+use Rattle.parts.proofs.Laws.Tests.{held, hold, each-weaker}
 use Rattle.station_theorems.proofs.Laws.Kept.{each-taken, list-only, list-length, pack-all, pack-length}
 use Rattle.station_theorems.proofs.Laws.Carried.{best-only}
 use Rattle.station_theorems.proofs.Laws.Seats.{seating, struck-other, struck-length, struck-fewer}

@@ -23,7 +23,7 @@ use Rattle.parts.specs.declared.frame.Frame.the-variants.{Token, Transmit, Info
 use Rattle.parts.specs.declared.frame.Dispatch.{Dispatch}
 use Rattle.parts.specs.declared.frame.Dispatch.the-variants.{Nothing, Sent}
 use Rattle.station_theorems.proofs.Laws.States.{waiting-is}
-use Rattle.station_theorems.proofs.Laws.Tests.{held, hold}
+use Rattle.parts.proofs.Laws.Tests.{held, hold}
 use Rattle.station_theorems.proofs.Laws.Carried.{best-found}
 use Rattle.station_theorems.proofs.Laws.Sending.{passes, pass}
 use Rattle.station_theorems.proofs.Laws.Members.{standing, stood}

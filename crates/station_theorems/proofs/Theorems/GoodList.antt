@@ -14,7 +14,7 @@ use Rattle.wholeness.specs.Whole.{messageGood, isBlank, listGood}
 use Rattle.parts.specs.declared.list.Message.{Message}
 use Rattle.parts.specs.declared.list.Messages.{Messages}
 use Rattle.parts.proofs.Laws.Messages.{place-none}
-use Rattle.station_theorems.proofs.Laws.Tests.{held, hold, each-none, each-first, each-rest, each}
+use Rattle.parts.proofs.Laws.Tests.{held, hold, each-none, each-first, each-rest, each}
 use Rattle.station_theorems.proofs.Laws.Kept.{list-short, list-messages, list-apart, list-blank, list-made}
 use Rattle.station_theorems.proofs.Laws.Members.{each-member, each-of, apart-at, apart-of}
 

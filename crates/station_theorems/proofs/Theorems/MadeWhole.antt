@@ -15,7 +15,7 @@ use Rattle.station.specs.Stations.{made}
 use Rattle.wholeness.specs.Whole.{ownSeat, otherSeat, seatGood, seatsGood, companyGood, listGood, waitersGood, awaitedGood}
 use Rattle.parts.specs.declared.moves.State.the-variants.{Offline}
 use Rattle.parts.proofs.Laws.Choose.{pick-true, pick-false}
-use Rattle.station_theorems.proofs.Laws.Tests.{both, each-none}
+use Rattle.parts.proofs.Laws.Tests.{both, each-none}
 use Rattle.parts.proofs.Laws.Live.{seats-inside, seats-all, seats-most}
 use Rattle.station_theorems.proofs.Laws.Kept.{list-made, apart-end, pack-rest}
 use Rattle.station_theorems.proofs.Laws.Based.{ring-good}

@@ -23,7 +23,7 @@ use Rattle.station.specs.declared.rules.strike.Loss.{Loss}
 use Rattle.station.specs.declared.rules.strike.Struck.{Struck}
 use Rattle.station.specs.declared.station.Station.{Station}
 use Rattle.station_theorems.proofs.Laws.States.{waits}
-use Rattle.station_theorems.proofs.Laws.Tests.{held}
+use Rattle.parts.proofs.Laws.Tests.{held}
 use Rattle.station_theorems.proofs.Laws.Based.{ringed, Based, sound-based, quiet-alone, sends-off}
 use Rattle.station_theorems.proofs.Laws.Sending.{resend-proper}
 use Rattle.station_theorems.proofs.Laws.Struck.{struck-based, left-based, still-based, counted-based, flight-cases}

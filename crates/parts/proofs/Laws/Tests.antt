@@ -1,11 +1,11 @@
--- Laws of tests in a row, of a list's elements and of the parts of whole: taken apart and put together. Assumes nothing.
+-- Laws of tests in a row and of a list's elements: taken apart and put together. Assumes nothing.
 use mathlib.Core.Path.{_≡_, refl}
 use mathlib.Core.Bool.{Bool, true, false}
 use mathlib.Core.List.{List, [], _∷_, _++_}
 use Prim.Native.Nat.{ℕ, zero, suc}
 use lib.ListN.{replicate}
 use Rattle.parts.specs.Choose.{pick, allOf, every}
 use Rattle.parts.proofs.Laws.Choose.{pick-and}
 
 -- ---- two tests
 
@@ -14,6 +14,22 @@ unfolding pick
 both p q = rw p q
 
 -- ---- tests in a row
+
+-- a test that holds lets the next be asked
+pub holds : {b : Bool} (ts : List Bool) → b ≡ true → allOf (b ∷ ts) ≡ allOf ts
+unfolding allOf pick
+holds ts e = rw e
+
+-- one that fails decides
+pub fails : {b : Bool} (ts : List Bool) → b ≡ false → allOf (b ∷ ts) ≡ false
+unfolding allOf pick
+fails ts e = rw e
+
+-- and the last one decides
+pub last : (b : Bool) → allOf (b ∷ []) ≡ b
+unfolding allOf pick
+last true = refl
+last false = refl
 
 -- each of them holds
 abbrev pub Hold : List Bool → Type 0

@@ -1,0 +1,4 @@
+-- What holds of the bench, one theorem a file.
+pub mod Bystander
+pub mod LongLines
+pub mod InParts

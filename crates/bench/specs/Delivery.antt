@@ -1,0 +1,74 @@
+-- "One frame is on the wire; a step hands it to every other station and puts the addressee's new frame on the wire."
+use mathlib.Core.Bool.{Bool, true, false, not}
+use mathlib.Core.List.{List, [], _∷_}
+use Prim.Native.Nat.{ℕ, zero, suc}
+use lib.Dec.{ltb, eqb}
+use Rattle.parts.specs.Choose.{pick}
+use Rattle.parts.specs.Moves.{isWaiting}
+use Rattle.parts.specs.Frames.{failingOf}
+use Rattle.station.specs.Stations.{answered}
+use Rattle.station.specs.Heard.{frameRule}
+use Rattle.parts.specs.declared.moves.State.{State}
+use Rattle.parts.specs.declared.frame.Whom.{Whom}
+use Rattle.parts.specs.declared.frame.Whom.the-variants.{Nobody, Member}
+use Rattle.parts.specs.declared.frame.Frame.{Frame}
+use Rattle.parts.specs.declared.frame.Dispatch.{Dispatch}
+use Rattle.parts.specs.declared.frame.Dispatch.the-variants.{Nothing, Sent}
+use Rattle.station.specs.declared.station.Station.{Station}
+use Rattle.station.specs.declared.station.Answer.{Answer}
+use Rattle.bench.specs.Ring.{stationAt}
+use Rattle.bench.specs.declared.ring.Wire.{Wire}
+use Rattle.bench.specs.declared.ring.Bench.{Bench}
+
+-- who hears a frame: every member of a ring of n but its sender
+abbrev pub hears : ℕ → ℕ → ℕ → Bool
+hears n from p = pick (ltb p n) (not (eqb p from)) false
+
+-- what the station at the position p answers; who does not hear the frame answers nothing and stays as it is
+unfoldable pub handed : ℕ → Frame → ℕ → ℕ → ℕ → Station → Answer
+handed n f from to p s = pick (hears n from p) (frameRule s f from to) (answered s 0)
+
+-- the stations from the position p on, in ring order, once each has been handed the frame
+unfoldable pub delivered : ℕ → Frame → ℕ → ℕ → ℕ → List Station → List Station
+delivered n f from to p [] = []
+delivered n f from to p (s ∷ ss) = handed n f from to p s .station ∷ delivered n f from to (suc p) ss
+
+-- the addressee's new frame, if it sends one
+unfoldable pub replyOf : Bench → Frame → ℕ → Dispatch
+replyOf b f to = handed (b .n) f (b .wire .from) to to (stationAt b to) .sent
+
+-- the frame f to the station `to` is delivered
+unfoldable pub deliver : Bench → Frame → ℕ → Bench
+deliver b f to =
+    record {
+      n = b .n;
+      stations = delivered (b .n) f (b .wire .from) to 0 (b .stations);
+      wire = record { from = to; sent = replyOf b f to };
+    }
+
+-- with no frame on the wire a step does nothing
+unfoldable pub stepOn : Bench → Dispatch → Bench
+stepOn b Nothing = b
+stepOn b (Sent frame to) = deliver b frame to
+
+unfoldable pub step : Bench → Bench
+step b = stepOn b (b .wire .sent)
+
+-- k steps
+unfoldable pub steps : ℕ → Bench → Bench
+steps zero b = b
+steps (suc k) b = steps k (step b)
+
+-- ---- who is handed back as it was
+
+abbrev pub isNobody : Whom → Bool
+isNobody Nobody = true
+isNobody (Member p) = false
+
+-- a station that does not wait and is not addressed, at a frame that names no failing station
+abbrev pub standsBy : Bool → State → ℕ → ℕ → Bool
+standsBy quiet state own to = pick quiet (pick (isWaiting state) false (not (eqb to own))) false
+
+-- the first p positions have been handed the frame: the addressee's reply, once it is among them
+abbrev pub replyTo : ℕ → ℕ → Dispatch → Dispatch → Dispatch
+replyTo p to sent before = pick (eqb p to) sent before

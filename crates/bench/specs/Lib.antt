@@ -1,0 +1,10 @@
+pub mod Ring
+pub mod Delivery
+pub mod Calls
+pub mod Rows
+pub mod Runs
+pub mod Text
+pub mod Running
+pub mod Lines
+pub mod Script
+pub mod Session

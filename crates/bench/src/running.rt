@@ -1,0 +1,84 @@
+// Many steps in one call: the loop over them stands where the table is, so that no step copies it.
+ghost use mathlib.Core.Path.{_≡_};
+ghost use Prim.Native.Nat.{_-_};
+ghost use lib.ListN.{length};
+ghost use Rattle.codec.specs.Octets.{laid};
+ghost use Rattle.bench.specs.Running.{fitting, stepsText, ran};
+use crate::ring::Bench;
+use crate::ring::Wire;
+use parts::frame::Dispatch;
+
+// The bench after some steps, the end of what is printed, and how many steps were done.
+pub struct Ran {
+    pub bench: Bench,
+    pub used: usize,
+    pub done: usize,
+}
+
+// The octets from `at` on.
+pub fn room_from(out: &[u8], at: usize) -> usize
+    ensures { λ r. ⌜ r ≡ length (now (out .entry)) - at ⌝ }
+{
+    let l = out.len();
+    if at < l { l - at } else { 0 }
+}
+
+// How many of `count` lines go into the octets from `at` on for sure.
+pub fn fit_in(count: usize, out: &[u8], at: usize) -> usize
+    ensures { λ r. ⌜ r ≡ fitting count (length (now (out .entry)) - at) ⌝ }
+{
+    let room = room_from(out, at);
+    let most = room / 32;
+    if most < count { most } else { count }
+}
+
+impl Bench {
+    // As many of `count` steps as the out buffer has room for, from `at` on, each with its frame's line.
+    pub fn run(self, count: usize, out: &mut [u8], at: usize) -> Ran
+        ensures { λ r. ⌜ (r ≡ ran self (fitting count (length (now (out .entry)) - at)) at)
+            × (now (out .exit) ≡ laid (now (out .entry)) at (stepsText (fitting count (length (now (out .entry)) - at)) self)) ⌝ }
+    {
+        let most = fit_in(count, &*out, at);
+        let n = self.n;
+        let m = parts::live::seats_of(n);
+        let mut stations = self.stations;
+        let mut wire = self.wire;
+        let mut used = at;
+        let mut k: usize = 0;
+        while k < most {
+            let d = wire.sent;
+            let Dispatch::Sent { frame, to } = d else {
+                break;
+            };
+            let from = wire.from;
+            let quiet = crate::delivery::is_quiet(frame);
+            let mut reply = Dispatch::Nothing;
+            let mut p: usize = 0;
+            while p < m {
+                let s = stations[p];
+                if crate::delivery::left_as_is(s, quiet, p, from, to) {
+                    p += 1;
+                    continue;
+                }
+                let a = s.frame(frame, from, to);
+                let t = a.station;
+                stations[p] = t;
+                let sent = a.sent;
+                reply = crate::delivery::reply_at(p, to, sent, reply);
+                p += 1;
+            }
+            wire = Wire {
+                from: to,
+                sent: reply,
+            };
+            used = crate::text::put_wire(&mut *out, used, wire);
+            k += 1;
+        }
+        let bench = Bench { n, stations, wire };
+        Ran {
+            bench,
+            used,
+            done: most,
+        }
+    }
+}

@@ -1,0 +1,20 @@
+-- Laws that the theorems use, one idea a file.
+pub mod Offset
+pub mod FullSet
+pub mod Numbers
+pub mod Listening
+pub mod Heads
+pub mod Hearing
+pub mod Longest
+pub mod Answering
+pub mod Replies
+pub mod TokenReplies
+pub mod Awaiting
+pub mod Answers
+pub mod Stepping
+pub mod Delivering
+pub mod Keeping
+pub mod Queueing
+pub mod Beginning
+pub mod Started
+pub mod Ringing

@@ -1,0 +1,104 @@
+-- What each member of a new ring answers to its start: station 0 sends the first token, the others become Idle. Assumes nothing.
+use mathlib.Core.Path.{_≡_, refl, sym, ap, subst, _∙_}
+use mathlib.Core.Bool.{Bool, true, false}
+use Prim.Native.Nat.{ℕ, _<_, _≤_}
+use native.Mathlib.Omega.{arith}
+use lib.Dec.{eqb}
+use borrow.Author.Tests.{eqb-true, eqb-false, ne-eqb}
+use Rattle.parts.specs.Choose.{pick}
+use Rattle.parts.specs.Messages.{best, bestOf}
+use Rattle.parts.specs.Live.{after}
+use Rattle.station.specs.Stations.{made, quiet, answered, head}
+use Rattle.station.specs.Round.{sight, startRound}
+use Rattle.station.specs.Start.{sentFirst, started, startRule}
+use Rattle.parts.specs.declared.moves.State.the-variants.{Idle}
+use Rattle.parts.specs.declared.moves.Event.the-variants.{Start}
+use Rattle.parts.specs.declared.frame.Whom.the-variants.{Nobody}
+use Rattle.parts.specs.declared.frame.Frame.{Frame}
+use Rattle.parts.specs.declared.frame.Frame.the-variants.{Token}
+use Rattle.parts.specs.declared.frame.Dispatch.{Dispatch}
+use Rattle.parts.specs.declared.frame.Dispatch.the-variants.{Sent}
+use Rattle.station.specs.declared.station.Handled.the-variants.{Never}
+use Rattle.station.specs.declared.station.Answer.{Answer}
+use Rattle.parts.proofs.Laws.Choose.{pick-true, pick-false}
+use Rattle.station.proofs.Laws.Moved.{moved-runs}
+use Rattle.station_theorems.proofs.Laws.Sound.{WholeStation}
+use Rattle.station_theorems.proofs.Theorems.MadeWhole.{made-whole}
+use Rattle.station_theorems.proofs.Theorems.StartWhole.{start-keeps-whole}
+use Rattle.bench.specs.Ring.{firstAnswer}
+use Rattle.bench_theorems.specs.Quiet.{Member, Stands, sender, at-rest}
+use Rattle.bench_theorems.proofs.Laws.FullSet.{full-successor}
+
+-- "Station 0 starts a round with frame number 0"
+abbrev pub firstFrame : Frame
+firstFrame = Token 0 0 0 Nobody 0
+
+module _ (n : ℕ) (two : 2 ≤ n) (most : n ≤ 64) where
+  starts : (p : ℕ) → firstAnswer n p ≡ started (made n 1 p)
+  unfolding startRule
+  starts p = moved-runs (made n 1 p) Start (started (made n 1 p)) refl refl
+
+  first-round : startRound (sight (made n 1 0)) 0 Nobody ≡ Sent firstFrame (after n 0)
+  unfolding startRound head best bestOf pick
+  first-round = ap (λ (q : ℕ). let d : Dispatch = Sent firstFrame q in d) (full-successor n 0 two most (omega arith))
+
+  starts-first : firstAnswer n 0 ≡ sentFirst (made n 1 0) (Sent firstFrame (after n 0))
+  unfolding started
+  starts-first = starts 0 ∙ pick-true _ _ refl ∙ ap (sentFirst (made n 1 0)) first-round
+
+  starts-idle : (p : ℕ) → (p ≡ 0 → ⊥) → firstAnswer n p ≡ answered (quiet (made n 1 p) Idle) 0
+  unfolding started
+  starts-idle p o = starts p ∙ pick-false _ _ (ne-eqb p 0 o)
+
+  pub first-sent : firstAnswer n 0 .sent ≡ Sent firstFrame (after n 0)
+  first-sent = ap (λ (a : Answer). a .sent) starts-first
+
+  -- a member as it starts
+  pub record Begun (p : ℕ) (a : Answer) : Type 0 where
+    pub number : a .number ≡ 0
+    pub member : Member n p (a .station)
+    pub stands : Stands 0 0 firstFrame (after n 0) p (a .station)
+    pub handled : a .station .turn .handled ≡ Never
+
+  pub begun : (p : ℕ) → p < n → Begun p (firstAnswer n p)
+  begun p h = go (eqb p 0) refl
+    where
+      whole : WholeStation (firstAnswer n p .station)
+      whole = start-keeps-whole (made n 1 p) (made-whole n 1 p two most (omega arith) (omega arith) h)
+
+      go : (t : Bool) → eqb p 0 ≡ t → Begun p (firstAnswer n p)
+      go true e =
+          let z : p ≡ 0 = eqb-true p 0 e in
+          let is : firstAnswer n p ≡ sentFirst (made n 1 p) (Sent firstFrame (after n 0)) =
+          ap (firstAnswer n) z ∙ starts-first ∙ ap (λ (i : ℕ). sentFirst (made n 1 i) (Sent firstFrame (after n 0))) (sym z) in
+          subst (Begun p) (sym is)
+          (record {
+            number = refl;
+            member =
+                record {
+                  same-n = refl;
+                  limit = refl;
+                  own = refl;
+                  live = refl;
+                  whole = subst (λ (a : Answer). WholeStation (a .station)) is whole;
+                };
+            stands = sender z refl refl;
+            handled = refl;
+          })
+      go false e =
+          let o : p ≡ 0 → ⊥ = eqb-false p 0 e in
+          let is : firstAnswer n p ≡ answered (quiet (made n 1 p) Idle) 0 = starts-idle p o in
+          subst (Begun p) (sym is)
+          (record {
+            number = refl;
+            member =
+                record {
+                  same-n = refl;
+                  limit = refl;
+                  own = refl;
+                  live = refl;
+                  whole = subst (λ (a : Answer). WholeStation (a .station)) is whole;
+                };
+            stands = at-rest o o refl;
+            handled = refl;
+          })

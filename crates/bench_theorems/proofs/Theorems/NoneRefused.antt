@@ -1,0 +1,129 @@
+-- No call of a fault-free run is refused: every start gives 0; every station that hears the frame on the wire gives 0; and a queue
+-- call gives the number that its own rule gives with everybody live, or 15 for a FROM outside the ring. Assumes nothing.
+use mathlib.Core.Path.{_≡_, refl, sym, ap, subst, _∙_}
+use mathlib.Core.Bool.{Bool, true, false}
+use mathlib.Core.List.{List}
+use Prim.Native.Nat.{ℕ, _<_, _≤_}
+use native.Mathlib.Omega.{arith}
+use lib.Dec.{leb, eqb}
+use borrow.Author.Tests.{leb-false, eqb-true}
+use Rattle.parts.specs.Choose.{pick}
+use Rattle.parts.specs.Moves.{moveOf, runs}
+use Rattle.parts.specs.Live.{liveAt, seats}
+use Rattle.station.specs.Stations.{stateOf, made, answered, unless}
+use Rattle.station.specs.Start.{startRule}
+use Rattle.station.specs.Heard.{frameRule}
+use Rattle.station.specs.Queue.{queueRefusal, accepted, queueNumber, queueRule}
+use Rattle.parts.specs.declared.moves.State.{State}
+use Rattle.parts.specs.declared.moves.Event.the-variants.{Queue}
+use Rattle.parts.specs.declared.live.Live.{Live}
+use Rattle.parts.specs.declared.frame.Frame.{Frame}
+use Rattle.parts.specs.declared.frame.Dispatch.the-variants.{Sent}
+use Rattle.station.specs.declared.station.Station.{Station}
+use Rattle.station.specs.declared.station.Answer.{Answer}
+use Rattle.station.proofs.Laws.Moved.{moved-runs}
+use Rattle.bench.specs.Ring.{stationAt, ringOf}
+use Rattle.bench.specs.Calls.{queue}
+use Rattle.bench.specs.Runs.{Event, final}
+use Rattle.bench.specs.declared.ring.Bench.{Bench}
+use Rattle.bench.specs.declared.calls.Queued.{Queued}
+use Rattle.bench.proofs.Laws.Calls.{queue-outside, queue-inside}
+use Rattle.bench_theorems.specs.Quiet.{Member, Stands, sender, last-sender, at-rest, Picture, Quiet}
+use Rattle.bench_theorems.proofs.Laws.FullSet.{seats-most, full-live}
+use Rattle.bench_theorems.proofs.Laws.Answers.{Role, sends, answers, overhears, role, silent-at, answer-at}
+use Rattle.bench_theorems.proofs.Laws.Started.{begun}
+use Rattle.bench_theorems.proofs.Theorems.ReachedQuiet.{reached-quiet, reached-n}
+
+-- ---- frames
+
+pub record NoneRefused (n : ℕ) (b : Bench) : Type 0 where
+  pub frame : Frame
+  pub to : ℕ
+  pub on-wire : b .wire .sent ≡ Sent frame to
+  pub heard : (p : ℕ) → p < n → (p ≡ b .wire .from → ⊥) → frameRule (stationAt b p) frame (b .wire .from) to .number ≡ 0
+
+heard-number : {n : ℕ} {at : ℕ → Station} {from : ℕ} {f : Frame} {to : ℕ} → Picture n at from f to → (p : ℕ) → p < n → (p ≡ from → ⊥)
+    → frameRule (at p) f from to .number ≡ 0
+heard-number {n} {at} {from} {f} {to} w p h o = go (role from to p)
+  where
+    go : Role from to p → frameRule (at p) f from to .number ≡ 0
+    go (sends e) = absurd (o e)
+    go (answers e x) = ap (λ (i : ℕ). frameRule (at i) f from to .number) e ∙ answer-at w .number
+    go (overhears x y) = silent-at w p h o x .number
+
+pub none-refused : (n : ℕ) → 2 ≤ n → n ≤ 64 → (es : List Event) → NoneRefused n (final (ringOf n) es)
+none-refused n two most es =
+    let b : Bench = final (ringOf n) es in
+    let q = reached-quiet n two most es in
+    record {
+      frame = q .frame;
+      to = q .to;
+      on-wire = q .on-wire;
+      heard = λ p h o. heard-number (q .picture) p (omega (arith, reached-n n two most es)) o;
+    }
+
+-- ---- starts
+
+pub no-start-refused : (n : ℕ) → 2 ≤ n → n ≤ 64 → (p : ℕ) → p < n → startRule (made n 1 p) .number ≡ 0
+no-start-refused n two most p h = begun n two most p h .number
+
+-- ---- queue calls
+
+pub record OwnNumber (n : ℕ) (b : Bench) (from to priority channel length : ℕ) : Type 0 where
+  pub outside : n ≤ from → queue b from to priority channel length .number ≡ 15
+  pub inside : from < n → queue b from to priority channel length .number ≡ queueRefusal n from true (stationAt b from .sends .len) to priority channel length
+
+unless-number : (s : Station) (k : ℕ) (a : Answer) → a .number ≡ 0 → unless s k a .number ≡ k
+unfolding unless pick
+unless-number s k a z = go (eqb k 0) refl
+  where
+    go : (t : Bool) → eqb k 0 ≡ t → pick t a (answered s k) .number ≡ k
+    go true e = z ∙ sym (eqb-true k 0 e)
+    go false e = refl
+
+-- a station that takes part runs its queue calls
+queues : {from before : ℕ} {f : Frame} {to p : ℕ} {s : Station} → Stands from before f to p s → moveOf (stateOf s) Queue ≡ runs
+queues (sender e w a) = ap (λ (st : State). moveOf st Queue) w
+queues (last-sender o e w g a k) = ap (λ (st : State). moveOf st Queue) w
+queues (at-rest o e i) = ap (λ (st : State). moveOf st Queue) i
+
+queue-number : (s : Station) (to priority channel length : ℕ) → moveOf (stateOf s) Queue ≡ runs
+    → queueRule s to priority channel length .number ≡ queueNumber s to priority channel length
+unfolding queueRule accepted
+queue-number s to priority channel length r =
+    ap (λ (a : Answer). a .number) (moved-runs s Queue _ refl r) ∙ unless-number s (queueNumber s to priority channel length) (accepted s to priority channel length) refl
+
+-- no destination of the ring is struck out
+all-live : (n own : ℕ) (alive : Bool) (len to priority channel length : ℕ) → (to < n → alive ≡ true)
+    → queueRefusal n own alive len to priority channel length ≡ queueRefusal n own true len to priority channel length
+unfolding queueRefusal
+all-live n own alive len to priority channel length w = go (leb n to) refl
+  where
+    go : (t : Bool) → leb n to ≡ t → queueRefusal n own alive len to priority channel length ≡ queueRefusal n own true len to priority channel length
+    go true e = rw e
+    go false e = rw (w (leb-false n to e))
+
+member-number : (n p : ℕ) (s : Station) → n ≤ 64 → Member n p s → (to priority channel length : ℕ)
+    → queueNumber s to priority channel length ≡ queueRefusal n p true (s .sends .len) to priority channel length
+member-number n p s most m to priority channel length =
+    ap (λ (i : ℕ). queueRefusal i (s .own) (liveAt (s .live) to) (s .sends .len) to priority channel length) (m .same-n)
+    ∙ ap (λ (i : ℕ). queueRefusal n i (liveAt (s .live) to) (s .sends .len) to priority channel length) (m .own)
+    ∙ all-live n p (liveAt (s .live) to) (s .sends .len) to priority channel length
+    (λ h. ap (λ (l : Live). liveAt l to) (m .live) ∙ full-live n to most h)
+
+quiet-number : (b : Bench) → Quiet b → (from to priority channel length : ℕ) → OwnNumber (b .n) b from to priority channel length
+quiet-number b q from to priority channel length =
+    let seats-are : b .n ≡ seats (b .n) = sym (seats-most (b .n) (q .picture .most-members)) in
+    record {
+      outside = λ h. sym (ap (λ (x : Queued). x .number) (queue-outside b (b .n) from to priority channel length seats-are h));
+      inside = λ h.
+          sym (ap (λ (x : Queued). x .number) (queue-inside b (b .n) from to priority channel length seats-are (stationAt b from) (queueRule (stationAt b from) to priority channel length) h refl refl))
+          ∙ queue-number (stationAt b from) to priority channel length (queues (q .picture .turns from h))
+          ∙ member-number (b .n) from (stationAt b from) (q .picture .most-members) (q .picture .members from h) to priority channel length;
+    }
+
+pub queue-numbers : (n : ℕ) → 2 ≤ n → n ≤ 64 → (es : List Event) (from to priority channel length : ℕ)
+    → OwnNumber n (final (ringOf n) es) from to priority channel length
+queue-numbers n two most es from to priority channel length =
+    subst (λ (k : ℕ). OwnNumber k (final (ringOf n) es) from to priority channel length) (reached-n n two most es)
+    (quiet-number (final (ringOf n) es) (reached-quiet n two most es) from to priority channel length)

@@ -1,0 +1,71 @@
+-- "Frame numbers follow each other around 65,536": the first frame is number 0, each step's is the number after the one before it,
+-- and so the frame on the wire has the number of steps taken, around 65,536. Assumes nothing.
+use mathlib.Core.Path.{_≡_, sym, ap, _∙_}
+use mathlib.Core.List.{List, [], _∷_}
+use Prim.Native.Nat.{ℕ, _+_, _%_, _^_, _≤_}
+use native.Mathlib.Nat.{mod-add-mod}
+use native.Mathlib.Omega.{arith}
+use Rattle.parts.specs.Frames.{numberOf, next}
+use Rattle.parts.specs.declared.frame.Frame.{Frame}
+use Rattle.parts.specs.declared.frame.Dispatch.{Dispatch}
+use Rattle.parts.specs.declared.frame.Dispatch.the-variants.{Sent}
+use Rattle.bench.specs.Ring.{ringOf}
+use Rattle.bench.specs.Delivery.{step}
+use Rattle.bench.specs.Runs.{Event, stepped, queued, afterEvent, final}
+use Rattle.bench.specs.declared.ring.Wire.{Wire}
+use Rattle.bench.specs.declared.ring.Bench.{Bench}
+use Rattle.bench_theorems.specs.Quiet.{Quiet}
+use Rattle.bench_theorems.specs.Counting.{stepsIn, numberIn, wireNumber}
+use Rattle.bench_theorems.proofs.Laws.Delivering.{reply-in, step-wire}
+use Rattle.bench_theorems.proofs.Laws.Queueing.{queue-wire}
+use Rattle.bench_theorems.proofs.Laws.Ringing.{first-wire, quiet-start}
+use Rattle.bench_theorems.proofs.Theorems.ReachedQuiet.{quiet-event, reached-quiet}
+
+-- a frame is on the wire, and after a step the one that follows it
+pub record Follows (b : Bench) : Type 0 where
+  pub frame : Frame
+  pub to : ℕ
+  pub on-wire : b .wire .sent ≡ Sent frame to
+  pub new-frame : Frame
+  pub new-to : ℕ
+  pub then-on-wire : step b .wire .sent ≡ Sent new-frame new-to
+  pub follows : numberOf new-frame ≡ next (numberOf frame)
+
+quiet-follows : (b : Bench) → Quiet b → Follows b
+quiet-follows b q =
+    record {
+      frame = q .frame;
+      to = q .to;
+      on-wire = q .on-wire;
+      new-frame = reply-in b q .frame;
+      new-to = reply-in b q .to;
+      then-on-wire = ap (λ (w : Wire). w .sent) (step-wire b q);
+      follows = reply-in b q .number;
+    }
+
+pub numbers-follow : (n : ℕ) → 2 ≤ n → n ≤ 64 → (es : List Event) → Follows (final (ringOf n) es)
+numbers-follow n two most es = quiet-follows (final (ringOf n) es) (reached-quiet n two most es)
+
+pub first-number : (n : ℕ) → 2 ≤ n → n ≤ 64 → wireNumber (ringOf n) ≡ 0
+first-number n two most = ap (λ (w : Wire). numberIn (w .sent)) (first-wire n two most)
+
+-- ---- counted from the first
+
+step-number : (b : Bench) → Quiet b → wireNumber (step b) ≡ next (wireNumber b)
+step-number b q =
+    let f = quiet-follows b q in
+    ap numberIn (f .then-on-wire) ∙ f .follows ∙ ap (λ (d : Dispatch). next (numberIn d)) (sym (f .on-wire))
+
+run-number : (b : Bench) → Quiet b → (j : ℕ) → wireNumber b ≡ j % 2 ^ 16 → (es : List Event) → wireNumber (final b es) ≡ (j + stepsIn es) % 2 ^ 16
+unfolding final stepsIn afterEvent
+run-number b q j e [] = e ∙ ap (λ (i : ℕ). i % 2 ^ 16) (omega arith)
+run-number b q j e (stepped ∷ es) =
+    run-number (afterEvent b stepped) (quiet-event b q stepped) (j + 1) (step-number b q ∙ ap next e ∙ mod-add-mod j (2 ^ 16) 1) es
+    ∙ ap (λ (i : ℕ). i % 2 ^ 16) (omega arith)
+run-number b q j e (queued from to priority channel length ∷ es) =
+    run-number (afterEvent b (queued from to priority channel length)) (quiet-event b q (queued from to priority channel length)) j
+    (ap (λ (w : Wire). numberIn (w .sent)) (queue-wire b from to priority channel length) ∙ e) es
+
+pub wire-number : (n : ℕ) → 2 ≤ n → n ≤ 64 → (es : List Event) → wireNumber (final (ringOf n) es) ≡ stepsIn es % 2 ^ 16
+wire-number n two most es =
+    run-number (ringOf n) (quiet-start n two most) 0 (first-number n two most) es ∙ ap (λ (i : ℕ). i % 2 ^ 16) (omega arith)

@@ -1,0 +1,46 @@
+-- "A step hands the frame to every other station and exactly the addressee answers": the addressee, another member than the sender,
+-- sends a frame, which the step puts on the wire; every other station that hears it sends nothing. Assumes nothing.
+use mathlib.Core.Path.{_≡_}
+use mathlib.Core.List.{List}
+use Prim.Native.Nat.{ℕ, _<_, _≤_}
+use native.Mathlib.Omega.{arith}
+use Rattle.station.specs.Heard.{frameRule}
+use Rattle.parts.specs.declared.frame.Frame.{Frame}
+use Rattle.parts.specs.declared.frame.Dispatch.the-variants.{Nothing, Sent}
+use Rattle.bench.specs.Ring.{stationAt, ringOf}
+use Rattle.bench.specs.Delivery.{step}
+use Rattle.bench.specs.Runs.{Event, final}
+use Rattle.bench.specs.declared.ring.Bench.{Bench}
+use Rattle.bench_theorems.proofs.Laws.Answers.{silent-at, new-sent}
+use Rattle.bench_theorems.proofs.Laws.Delivering.{reply-in, step-wire}
+use Rattle.bench_theorems.proofs.Theorems.ReachedQuiet.{reached-quiet, reached-n}
+
+pub record OneAnswers (n : ℕ) (b : Bench) : Type 0 where
+  pub frame : Frame
+  pub to : ℕ
+  pub on-wire : b .wire .sent ≡ Sent frame to
+  pub addressee : to < n
+  pub another : to ≡ b .wire .from → ⊥
+  pub answer : Frame
+  pub onward : ℕ
+  pub answers : frameRule (stationAt b to) frame (b .wire .from) to .sent ≡ Sent answer onward
+  pub others-silent : (p : ℕ) → p < n → (p ≡ b .wire .from → ⊥) → (p ≡ to → ⊥) → frameRule (stationAt b p) frame (b .wire .from) to .sent ≡ Nothing
+  pub goes-on : step b .wire ≡ record { from = to; sent = Sent answer onward }
+
+pub one-answers : (n : ℕ) → 2 ≤ n → n ≤ 64 → (es : List Event) → OneAnswers n (final (ringOf n) es)
+one-answers n two most es =
+    let b : Bench = final (ringOf n) es in
+    let q = reached-quiet n two most es in
+    record {
+      frame = q .frame;
+      to = q .to;
+      on-wire = q .on-wire;
+      addressee = omega (arith, reached-n n two most es, q .picture .addressee-member);
+      another = q .picture .another;
+      answer = reply-in b q .frame;
+      onward = reply-in b q .to;
+      answers = new-sent (q .picture);
+      others-silent = λ p h o x.
+          silent-at (q .picture) p (omega (arith, reached-n n two most es)) o x .sent;
+      goes-on = step-wire b q;
+    }

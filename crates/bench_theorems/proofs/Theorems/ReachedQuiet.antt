@@ -1,0 +1,61 @@
+-- Every bench that a run comes to is quiet: a ring of 2 to 64 members, then any steps and queue calls with any numbers.
+-- Assumes nothing.
+use mathlib.Core.Path.{_≡_, refl, _∙_}
+use mathlib.Core.Bool.{Bool, true, false}
+use mathlib.Core.List.{List, [], _∷_}
+use Prim.Native.Nat.{ℕ, _≤_}
+use lib.Dec.{leb}
+use Rattle.parts.specs.Choose.{pick}
+use Rattle.parts.specs.Live.{seats}
+use Rattle.station.specs.Queue.{queueRule}
+use Rattle.parts.specs.declared.frame.Dispatch.{Dispatch}
+use Rattle.parts.specs.declared.frame.Dispatch.the-variants.{Nothing, Sent}
+use Rattle.bench.specs.Ring.{stationAt, ringOf}
+use Rattle.bench.specs.Delivery.{deliver, stepOn, step}
+use Rattle.bench.specs.Calls.{queueAt, queue}
+use Rattle.bench.specs.Runs.{Event, stepped, queued, afterEvent, final}
+use Rattle.bench.specs.declared.ring.Bench.{Bench}
+use Rattle.bench.specs.declared.calls.Queued.{Queued}
+use Rattle.bench_theorems.specs.Quiet.{Quiet}
+use Rattle.bench_theorems.proofs.Laws.Delivering.{quiet-step}
+use Rattle.bench_theorems.proofs.Laws.Queueing.{quiet-queue}
+use Rattle.bench_theorems.proofs.Laws.Beginning.{ring-n}
+use Rattle.bench_theorems.proofs.Laws.Ringing.{quiet-start}
+
+pub quiet-event : (b : Bench) → Quiet b → (e : Event) → Quiet (afterEvent b e)
+unfolding afterEvent
+quiet-event b q stepped = quiet-step b q
+quiet-event b q (queued from to priority channel length) = quiet-queue b q from to priority channel length
+
+pub quiet-run : (b : Bench) → Quiet b → (es : List Event) → Quiet (final b es)
+unfolding final
+quiet-run b q [] = q
+quiet-run b q (e ∷ es) = quiet-run (afterEvent b e) (quiet-event b q e) es
+
+pub reached-quiet : (n : ℕ) → 2 ≤ n → n ≤ 64 → (es : List Event) → Quiet (final (ringOf n) es)
+reached-quiet n two most es = quiet-run (ringOf n) (quiet-start n two most) es
+
+-- ---- the ring keeps its size
+
+step-n : (b : Bench) (d : Dispatch) → stepOn b d .n ≡ b .n
+unfolding stepOn deliver
+step-n b Nothing = refl
+step-n b (Sent frame to) = refl
+
+event-n : (b : Bench) (e : Event) → afterEvent b e .n ≡ b .n
+unfolding afterEvent step queue pick
+event-n b stepped = step-n b (b .wire .sent)
+event-n b (queued from to priority channel length) = go (leb (seats (b .n)) from)
+  where
+    go : (t : Bool)
+        → pick {A = Queued} t (record { bench = b; number = 15 }) (queueAt b from (queueRule (stationAt b from) to priority channel length)) .bench .n ≡ b .n
+    go true = refl
+    go false = refl
+
+run-n : (b : Bench) (es : List Event) → final b es .n ≡ b .n
+unfolding final
+run-n b [] = refl
+run-n b (e ∷ es) = run-n (afterEvent b e) es ∙ event-n b e
+
+pub reached-n : (n : ℕ) → 2 ≤ n → n ≤ 64 → (es : List Event) → final (ringOf n) es .n ≡ n
+reached-n n two most es = run-n (ringOf n) es ∙ ring-n n two most

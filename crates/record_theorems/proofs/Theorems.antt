@@ -1,0 +1,4 @@
+-- What holds of the record, one theorem a file.
+pub mod WriteRead
+pub mod ReadWrite
+pub mod Anew

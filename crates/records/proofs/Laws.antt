@@ -1,0 +1,4 @@
+pub mod Tables
+pub mod Flags
+pub mod Load
+pub mod Sizes

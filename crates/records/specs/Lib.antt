@@ -1,0 +1,4 @@
+pub mod Layout
+pub mod Tables
+pub mod Fields
+pub mod Record

@@ -1,0 +1,88 @@
+-- The record: a station of a ring in 671 octets. The ring file's octets and zeros up to 386, then the station's fields, every octet
+-- fixed. "A record is whole if it reads by docs/'s layout, length included; its ring is good; ..."
+use Prim.Native.Nat.{ℕ, _+_, _-_, _*_}
+use mathlib.Core.Bool.{Bool, true, false, not}
+use mathlib.Core.List.{List, [], _∷_, _++_}
+use lib.Dec.{eqb}
+use lib.ListN.{length, take}
+use Rattle.codec.specs.Order.{firstOf}
+use Rattle.codec.specs.Octets.{octets, numberAt, zeros, firstNonzero}
+use Rattle.codec.specs.Ring.{count, readRing, noRing}
+use Rattle.codec.specs.declared.ring.Ring.{Ring}
+use Rattle.codec.specs.declared.ring.RingRead.{RingRead}
+use Rattle.parts.specs.Choose.{allOf}
+use Rattle.station.specs.Stations.{made}
+use Rattle.wholeness.specs.Whole.{whole}
+use Rattle.station.specs.declared.station.Station.{Station}
+use Rattle.records.specs.Layout.{ringRoom, ownAt, lostAt, givenUpAt, liveAt, sendsAt, receivesAt, recordLength}
+use Rattle.records.specs.Fields.{turnAt, turnGood, turnOctets, liveFrom, flagsGood, liveOctets, messagesAt, messagesOctets}
+use Rattle.records.specs.declared.record.Loaded.{Loaded}
+
+-- ---- the octets
+
+abbrev pub countsOctets : ℕ → ℕ → List ℕ
+countsOctets lost givenup = octets 4 lost ++ octets 4 givenup
+
+abbrev pub listsOctets : Station → List ℕ
+listsOctets s = messagesOctets (s .sends) ++ messagesOctets (s .receives)
+
+-- the fields, in their order
+abbrev pub stationOctets : Station → List ℕ
+stationOctets s =
+    (turnOctets (s .own) (s .turn) ++ (countsOctets (s .lost) (s .givenup) ++ liveOctets (s .live))) ++ listsOctets s
+
+abbrev pub ringOctets : List ℕ → List ℕ
+ringOctets file = file ++ zeros (ringRoom - length file)
+
+abbrev pub recordOctets : List ℕ → Station → List ℕ
+recordOctets file s = ringOctets file ++ stationOctets s
+
+-- ---- reading
+
+-- the ring file says how long it is
+abbrev pub fileLength : List ℕ → ℕ
+fileLength s = 2 + 6 * count s
+
+abbrev pub fileOf : List ℕ → List ℕ
+fileOf s = take (fileLength s) s
+
+abbrev pub ringFrom : List ℕ → RingRead
+ringFrom s = readRing (fileOf s)
+
+-- only zeros follow it
+abbrev pub padGood : List ℕ → Bool
+padGood s = eqb (firstNonzero s (fileLength s) (ringRoom - fileLength s)) ringRoom
+
+abbrev pub stationFrom : List ℕ → ℕ → ℕ → Station
+stationFrom s n limit =
+    record {
+      n = n;
+      limit = limit;
+      own = numberAt s ownAt 1;
+      live = liveFrom s;
+      sends = messagesAt s sendsAt;
+      receives = messagesAt s receivesAt;
+      turn = turnAt s;
+      lost = numberAt s lostAt 4;
+      givenup = numberAt s givenUpAt 4;
+    }
+
+abbrev pub stationOf : List ℕ → Station
+stationOf s = stationFrom s (ringFrom s .ring .n) (ringFrom s .ring .limit)
+
+-- every octet is one that writing the station gives
+unfoldable pub fieldsGood : List ℕ → Bool
+fieldsGood s = allOf (padGood s ∷ turnGood s ∷ flagsGood s liveAt 64 ∷ [])
+
+-- no station
+abbrev pub notWhole : Loaded
+notWhole = record { ok = false; ring = noRing 0 .ring; station = made 0 0 0 }
+
+unfoldable pub readRecord : List ℕ → Loaded
+readRecord s =
+    firstOf (record { ok = true; ring = ringFrom s .ring; station = stationOf s })
+    ((not (eqb (length s) recordLength), notWhole)
+    ∷ (not (eqb (ringFrom s .number) 0), notWhole)
+    ∷ (not (fieldsGood s), notWhole)
+    ∷ (not (whole (stationOf s)), notWhole)
+    ∷ [])

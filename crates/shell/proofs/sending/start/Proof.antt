@@ -1,0 +1,80 @@
+-- `sending::start` meets its contract: at each return the tests that led there say which number it is, and what is left.
+use mathlib.Core.Path.{refl, sym}
+use mathlib.Core.List.{[]}
+use Prim.Native.Nat.{zero-le}
+use native.Mathlib.Omega.{arith}
+use borrow.Author.Tests.{lt-ltb, le-ltb}
+use Rattle.station.specs.Start.{startRule}
+use Rattle.shell.proofs.Laws.Calls.{whole-length, whole-addresses, refused-9, refused-35, not-sent, station-refuses, station-sends}
+use borrow.Author.Needs.{needs}
+use Rattle.shell.proofs.sending.start.Statement.{statement}
+use Rattle.shell.proofs.sending.start.Tie as tie
+
+returns : tie.Need-returns
+returns c = not-sent (refused-9 (lt-ltb _ _ (c .if1 .taken)))
+
+load-requires : tie.Need-load-requires
+load-requires c κs = search needs
+
+same-length : tie.Need-same-length
+same-length c = search needs
+
+returns-2 : tie.Need-returns-2
+returns-2 c = not-sent (refused-35 _ (le-ltb _ _ (c .before .before .before .before .if1 .left)) (c .before .before .load .ensures) (c .if2 .taken))
+
+start-requires : tie.Need-start-requires
+start-requires c κs = search needs
+
+same-length-2 : tie.Need-same-length-2
+same-length-2 c = search needs
+
+returns-3 : tie.Need-returns-3
+returns-3 c =
+    station-refuses startRule (λ d. []) _ (le-ltb _ _ (c .before .before .before .before .before .before .before .before .if1 .left)) (c .before .before .before .before .before .before .load .ensures) (c .before .before .before .before .if2 .left) _ (c .before .before .start .ensures)
+    (c .if3 .taken)
+
+slice-aggregate-members : tie.Need-slice-aggregate-members
+slice-aggregate-members c = sym (whole-addresses _ _ (c .before .before .before .before .before .before .before .before .before .before .before .before .load .ensures) (c .before .before .before .before .before .before .before .before .before .before .if2 .left))
+
+members-requires : tie.Need-members-requires
+members-requires c κs = search needs
+
+slice-aggregate-settle : tie.Need-slice-aggregate-settle
+slice-aggregate-settle c = search needs
+
+settle-requires : tie.Need-settle-requires
+settle-requires c κs =
+    let h = whole-length (c .before .before .before .before .before .before .before .before .before .before .before .before .before .before .before .before .before .before .before .args .rec .now) _ (c .before .before .before .before .before .before .before .before .before .before .before .before .before .before .load .ensures) (c .before .before .before .before .before .before .before .before .before .before .before .before .if2 .left) in
+    (omega (arith, h), (c .before .before .before .before .before .before .before .before .before .before .before .before .before .before .before .before .if1 .left, zero-le))
+
+same-length-3 : tie.Need-same-length-3
+same-length-3 c = search needs
+
+same-length-4 : tie.Need-same-length-4
+same-length-4 c = search needs
+
+returns-4 : tie.Need-returns-4
+returns-4 c =
+    station-sends startRule (λ d. []) _ (le-ltb _ _ (c .before .before .before .before .before .before .before .before .before .before .before .before .before .before .before .before .before .before .before .before .before .if1 .left)) (c .before .before .before .before .before .before .before .before .before .before .before .before .before .before .before .before .before .before .before .load .ensures) (c .before .before .before .before .before .before .before .before .before .before .before .before .before .before .before .before .before .if2 .left) _ (c .before .before .before .before .before .before .before .before .before .before .before .before .before .before .before .start .ensures)
+    (c .before .before .before .before .before .before .before .before .before .before .before .before .before .if3 .left) _ [] _ _ _
+    (c .before .before .before .before .before .before .members .ensures) refl
+    (c .before .before .before .before .settle .ensures)
+
+pub start-spec : {M : Type 1} → statement M
+start-spec =
+    tie.close
+    (tie.spec
+    returns
+    load-requires
+    same-length
+    returns-2
+    start-requires
+    same-length-2
+    returns-3
+    slice-aggregate-members
+    members-requires
+    slice-aggregate-settle
+    settle-requires
+    same-length-3
+    same-length-4
+    returns-4)

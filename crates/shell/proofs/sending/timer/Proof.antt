@@ -1,0 +1,89 @@
+-- `sending::timer` meets its contract: at each return the tests that led there say which number it is, and what is left.
+use mathlib.Core.Path.{sym, _∙_}
+use native.Mathlib.Omega.{arith}
+use Rattle.station.specs.Timer.{timerRule}
+use Rattle.shell.specs.Places.{informationOf}
+use Rattle.shell.proofs.Laws.Calls.{whole-length, whole-addresses, information-short, good-buffers, refused-9, refused-35, not-sent, station-refuses, station-sends}
+use borrow.Author.Needs.{needs}
+use Rattle.shell.proofs.sending.timer.Statement.{statement}
+use Rattle.shell.proofs.sending.timer.Tie as tie
+
+bad-buffers-requires : tie.Need-bad-buffers-requires
+bad-buffers-requires c κs = search needs
+
+returns : tie.Need-returns
+returns c = not-sent (refused-9 (sym (c .before .bad-buffers .ensures) ∙ c .if1 .taken))
+
+load-requires : tie.Need-load-requires
+load-requires c κs = search needs
+
+same-length : tie.Need-same-length
+same-length c = search needs
+
+returns-2 : tie.Need-returns-2
+returns-2 c =
+    not-sent
+    (refused-35 _ (sym (c .before .before .before .before .before .bad-buffers .ensures) ∙ c .before .before .before .before .if1 .left) (c .before .before .load .ensures) (c .if2 .taken))
+
+timer-requires : tie.Need-timer-requires
+timer-requires c κs = search needs
+
+same-length-2 : tie.Need-same-length-2
+same-length-2 c = search needs
+
+returns-3 : tie.Need-returns-3
+returns-3 c =
+    station-refuses timerRule (informationOf (c .before .before .before .before .before .before .before .before .before .before .before .before .before .args .store .now)) _ (sym (c .before .before .before .before .before .before .before .before .before .bad-buffers .ensures) ∙ c .before .before .before .before .before .before .before .before .if1 .left) (c .before .before .before .before .before .before .load .ensures) (c .before .before .before .before .if2 .left) _ (c .before .before .timer .ensures)
+    (c .if3 .taken)
+
+slice-aggregate-members : tie.Need-slice-aggregate-members
+slice-aggregate-members c = sym (whole-addresses _ _ (c .before .before .before .before .before .before .before .before .before .before .before .before .load .ensures) (c .before .before .before .before .before .before .before .before .before .before .if2 .left))
+
+members-requires : tie.Need-members-requires
+members-requires c κs = search needs
+
+information-of-requires : tie.Need-information-of-requires
+information-of-requires c κs = search needs
+
+settle-requires : tie.Need-settle-requires
+settle-requires c κs =
+    let h = whole-length (c .before .before .before .before .before .before .before .before .before .before .before .before .before .before .before .before .before .before .before .before .before .args .rec .now) _ (c .before .before .before .before .before .before .before .before .before .before .before .before .before .before .load .ensures) (c .before .before .before .before .before .before .before .before .before .before .before .before .if2 .left) in (
+      omega (arith, h),
+      (
+        good-buffers _ _ (sym (c .before .before .before .before .before .before .before .before .before .before .before .before .before .before .before .before .before .bad-buffers .ensures) ∙ c .before .before .before .before .before .before .before .before .before .before .before .before .before .before .before .before .if1 .left) .1,
+        information-short _ _ _ (c .information-of .ensures),
+      ),
+    )
+
+same-length-3 : tie.Need-same-length-3
+same-length-3 c = search needs
+
+same-length-4 : tie.Need-same-length-4
+same-length-4 c = search needs
+
+returns-4 : tie.Need-returns-4
+returns-4 c =
+    station-sends timerRule (informationOf (c .before .before .before .before .before .before .before .before .before .before .before .before .before .before .before .before .before .before .before .before .before .before .before .before .before .before .args .store .now)) _ (sym (c .before .before .before .before .before .before .before .before .before .before .before .before .before .before .before .before .before .before .before .before .before .before .bad-buffers .ensures) ∙ c .before .before .before .before .before .before .before .before .before .before .before .before .before .before .before .before .before .before .before .before .before .if1 .left) (c .before .before .before .before .before .before .before .before .before .before .before .before .before .before .before .before .before .before .before .load .ensures) (c .before .before .before .before .before .before .before .before .before .before .before .before .before .before .before .before .before .if2 .left) _ (c .before .before .before .before .before .before .before .before .before .before .before .before .before .before .before .timer .ensures)
+    (c .before .before .before .before .before .before .before .before .before .before .before .before .before .if3 .left) _ _ _ _ _
+    (c .before .before .before .before .before .before .members .ensures) (c .before .before .before .before .before .information-of .ensures)
+    (c .before .before .before .before .settle .ensures)
+
+pub timer-spec : {M : Type 1} → statement M
+timer-spec =
+    tie.close
+    (tie.spec
+    bad-buffers-requires
+    returns
+    load-requires
+    same-length
+    returns-2
+    timer-requires
+    same-length-2
+    returns-3
+    slice-aggregate-members
+    members-requires
+    information-of-requires
+    settle-requires
+    same-length-3
+    same-length-4
+    returns-4)

@@ -1,0 +1,4 @@
+pub mod Places
+pub mod Packets
+pub mod Telling
+pub mod Calls

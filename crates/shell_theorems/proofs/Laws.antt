@@ -1,0 +1,4 @@
+-- Laws that the theorems use, one idea a file.
+pub mod WholeTyped
+pub mod HeardFrames
+pub mod MadeRecords

@@ -1,0 +1,3 @@
+-- What holds of a driver's calls, one theorem a file.
+pub mod Held
+pub mod NeverNotWhole

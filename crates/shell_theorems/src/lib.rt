@@ -1,0 +1,1 @@
+// What holds of a driver's calls: theorems, no code.
