@@ -370,6 +370,37 @@ static void priority_order(void)
     expect_taken(4, 0, 10, 5, 20, 40);
 }
 
+/* Equal priorities: the first to hear the token keeps it. And the master does not look at its own list again when its
+ * token comes back: what it has queued since goes in a later round. */
+static void turns(void)
+{
+    until_quiet();
+    unsigned master = wire.to, first = (master + 1) % STATIONS, second = (master + 2) % STATIONS;
+    CHECK(queue(second, first, 77, 1, 3, 50) == RTEP_DONE, "queue");
+    CHECK(queue(first, second, 77, 1, 4, 51) == RTEP_DONE, "queue");
+    until_information();
+    CHECK(wire.from == first, "station %u was granted before %u", wire.from, first);
+    until_information();
+    CHECK(wire.from == second, "station %u was granted", wire.from);
+    until_quiet();
+    expect_taken(second, first, 77, 1, 4, 51);
+    expect_taken(first, second, 77, 1, 3, 50);
+
+    master = wire.to;
+    first = (master + 1) % STATIONS;
+    step(0);
+    CHECK(wire.from == master && wire.packet[0] == 1 && address_at(4) == addresses[master], "a new round");
+    CHECK(queue(master, first, 200, 1, 5, 52) == RTEP_DONE, "queue");
+    CHECK(queue(first, master, 100, 1, 6, 53) == RTEP_DONE, "queue");
+    until_information();
+    CHECK(wire.from == first && wire.packet[1] == 100, "station %u was granted", wire.from);
+    until_information();
+    CHECK(wire.from == master && wire.packet[1] == 200, "station %u was granted", wire.from);
+    until_quiet();
+    expect_taken(master, first, 100, 1, 6, 53);
+    expect_taken(first, master, 200, 1, 5, 52);
+}
+
 /* Frames that are no frames of this ring, or damaged on the way, change nothing. */
 static void damaged_frames(void)
 {
@@ -431,6 +462,10 @@ static void lost_frames(void)
     CHECK(timer(3) == RTEP_DONE && on_wire && memcmp(wire.packet, token.packet, 46) == 0, "the token again");
     step(0);
     CHECK(state(1) == RTEP_IDLE, "acknowledged");
+    step(0);
+    CHECK(state(3) == RTEP_IDLE, "acknowledged too");
+    CHECK(hear(3, addresses[1], addresses[3], information.packet, information.octets) == RTEP_DONE,
+          "the last handled number once more, and no answer");
     expect_taken(3, 1, 50, 2, 700, 60);
     expect_taken(3, 1, 50, 2, 800, 61);
     struct note note;
@@ -624,6 +659,7 @@ int main(void)
     make_all();
     start_all();
     priority_order();
+    turns();
     damaged_frames();
     lost_frames();
     full_lists();

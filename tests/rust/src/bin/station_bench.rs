@@ -4,7 +4,7 @@
 //! Both sides keep the same record in a buffer, make the same checks, and get the same inputs. Each
 //! stands behind exactly one call that is not inlined. They take turns in many short rounds; before
 //! each round every record is set to what it was, outside the time, and the best time per call of
-//! each side counts.
+//! each side counts. A word after the program's name runs only the rows that have it.
 
 use rtep::model::{ring_file, Packet};
 use rtep::random::Random;
@@ -161,6 +161,7 @@ fn after(record: [u8; RECORD], call: &Call, lent: &mut Lent) -> [u8; RECORD] {
 }
 
 struct Bench {
+    wanted: String,
     library: Lent,
     plain: Lent,
     highest: f64,
@@ -178,6 +179,9 @@ impl Bench {
         number: u32,
         record: &[u8; RECORD],
     ) {
+        if !what.contains(&self.wanted) {
+            return;
+        }
         let Bench { library, plain, .. } = self;
         // Both sides do the same before they are timed.
         let (mut one, mut other) = (*record, *record);
@@ -230,6 +234,7 @@ fn main() {
         "call", "members", "messages", "library", "Rust", "ratio"
     );
     let mut bench = Bench {
+        wanted: std::env::args().nth(1).unwrap_or_default(),
         library: Lent::new(random),
         plain: Lent::new(random),
         highest: 0.0,
@@ -286,6 +291,6 @@ fn main() {
             bench.row("take: 1492", members, one, &Call::Take, 0, &long);
         }
     }
-    let mean = (bench.logarithms / bench.rows as f64).exp();
+    let mean = (bench.logarithms / bench.rows.max(1) as f64).exp();
     println!("highest ratio {:.2}, geometric mean {mean:.2}", bench.highest);
 }
