@@ -15,6 +15,8 @@ use codec::reading::read_packet;
 use codec::ring::Ring;
 use codec::writing::write_packet;
 
+pub mod driver;
+
 // A packet that eight numbers give, or nothing where they are out of their ranges.
 pub enum Made {
     Nothing,
