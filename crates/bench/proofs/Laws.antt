@@ -8,6 +8,7 @@ pub mod Calls
 pub mod Words
 pub mod Numbers
 pub mod Lines
+pub mod Reading
 pub mod Laying
 pub mod Running
 pub mod Session

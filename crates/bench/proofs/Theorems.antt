@@ -2,3 +2,4 @@
 pub mod Bystander
 pub mod LongLines
 pub mod InParts
+pub mod Reading

@@ -8,3 +8,4 @@ pub mod Running
 pub mod Lines
 pub mod Script
 pub mod Session
+pub mod Reading

@@ -2,6 +2,7 @@
 pub mod calls;
 pub mod delivery;
 pub mod lines;
+pub mod reading;
 pub mod ring;
 pub mod rows;
 pub mod running;

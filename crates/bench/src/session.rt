@@ -1,6 +1,5 @@
 // A script's session: what a line does, and what it prints.
 ghost use mathlib.Core.Path.{_≡_};
-ghost use mathlib.Core.List.{_++_};
 ghost use Prim.Native.Nat.{_+_, _-_, _≤_};
 ghost use lib.ListN.{length};
 ghost use Rattle.codec.specs.Octets.{laid};
@@ -8,7 +7,7 @@ ghost use Rattle.bench.specs.Ring.{ringOf};
 ghost use Rattle.bench.specs.Calls.{queue};
 ghost use Rattle.bench.specs.Delivery.{steps};
 ghost use Rattle.bench.specs.Running.{fitting, stepsText};
-ghost use Rattle.bench.specs.Text.{answerText};
+ghost use Rattle.bench.specs.Text.{badLine, answerText};
 ghost use Rattle.bench.specs.Script.{unbegun, onBench, opens, ringText};
 ghost use Rattle.bench.specs.Session.{refuses, badText, actedBy, obeyed, obeyedText};
 use crate::lines::Line;
@@ -104,6 +103,20 @@ impl Session {
         }
     }
 
+    // A line that only prints `bad line`.
+    fn turn_down(self, out: &mut [u8], at: usize) -> Acted
+        requires { ⌜ at + 64 ≤ length (now out) ⌝ }
+        ensures { λ r. ⌜ (r ≡ actedBy self badLine at 0) × (now (out .exit) ≡ laid (now (out .entry)) at badLine) ⌝ }
+    {
+        let used = crate::text::put_bad(&mut *out, at);
+        Acted {
+            session: self,
+            used,
+            left: 0,
+            done: true,
+        }
+    }
+
     // A queue call.
     fn send(
         self,
@@ -168,13 +181,7 @@ impl Session {
             };
         }
         if is_refused(self.begun, l) {
-            let used = crate::text::put_bad(&mut *out, at);
-            return Acted {
-                session: self,
-                used,
-                left: 0,
-                done: true,
-            };
+            return self.turn_down(&mut *out, at);
         }
         match l {
             Line::Ring(n) => open(n, &mut *out, at),
@@ -186,12 +193,7 @@ impl Session {
                 length,
             } => self.send(from, to, priority, channel, length, &mut *out, at),
             Line::Step(count) => self.advance(count, &mut *out, at),
-            Line::Bad => Acted {
-                session: self,
-                used: at,
-                left: 0,
-                done: true,
-            },
+            Line::Bad => self.turn_down(&mut *out, at),
         }
     }
 }

@@ -3,11 +3,27 @@ use mathlib.Core.Path.{_≡_, refl}
 use mathlib.Core.List.{List, map}
 use Prim.Native.Nat.{ℕ}
 use Rattle.codec.specs.Bits.{bits}
-use Rattle.codec.specs.Ring.{addressesOf, badAddress, position, ringRefusal, ringOf, readRing, addressOctets, ringFile}
-use Rattle.parts.specs.Choose.{pick}
-use Rattle.station.specs.Heard.{acknowledges}
+use Rattle.codec.specs.Ring.{addressesOf, badAddress, position, ringRefusal, ringOf as ringIn, readRing, addressOctets, ringFile}
+use Rattle.parts.specs.Choose.{pick, allOf, every}
+use Rattle.parts.specs.Live.{full, after, seek, successor}
+use Rattle.parts.specs.Messages.{pack, pushed, fits, only, splitBy, betterOf, bestOf, best, hasPlace, freeFrom, lowestFree}
+use Rattle.station.specs.Stations.{addUpTo, head, moved, unless}
+use Rattle.station.specs.Start.{started, startRule}
+use Rattle.station.specs.Round.{startRound, sendHead, grant, returned, cleared, raised, passOn, onToken, reply}
+use Rattle.station.specs.Heard.{heardRefusal, acknowledges, acknowledged, landed, acknowledge, strikeOther, strikeHeard, failed, isLast, nothingMore, receive, stored, handle, respond, heard, frameRule}
+use Rattle.station.specs.Strike.{newly, giveUpTo, giveUpAt, giveUpFlight}
+use Rattle.station.specs.Queue.{queueRefusal, accepted, queueRule}
+use Rattle.bench.specs.Ring.{nobody, onWire, startAt, startDown, ringOf}
+use Rattle.bench.specs.Calls.{queue}
+use Rattle.bench.specs.Delivery.{handed, delivered, replyOf, deliver, stepOn, step, steps}
+use Rattle.bench.specs.Rows.{rowOf, rowOn}
+use Rattle.bench.specs.Runs.{afterEvent, composed, final, frames, stepping}
+use Rattle.bench.specs.Text.{width, decimal, cell, frontText, endsText, backText, rowText, rowsText, answerText}
+use Rattle.bench.specs.Lines.{words, valueFrom, isNumber, same, shaped, lineOfWords, lineOf, linesOf}
+use Rattle.bench.specs.Script.{opens, does, prints, printed, output}
+use Rattle.waiting.specs.Waiting.{own, before, shorts, octetsOnWire}
 use Rattle.proved_cases.specs.Cases.{Case, cases}
 
 pub all-hold : map (λ (c : Case). c .given) cases ≡ map (λ (c : Case). c .page) cases
-unfolding cases bits addressesOf badAddress position ringRefusal ringOf readRing addressOctets ringFile pick acknowledges
+unfolding cases bits addressesOf badAddress position ringRefusal ringIn readRing addressOctets ringFile pick allOf every full after seek successor pack pushed fits only splitBy betterOf bestOf best hasPlace freeFrom lowestFree addUpTo head moved unless started startRule startRound sendHead grant returned cleared raised passOn onToken reply heardRefusal acknowledges acknowledged landed acknowledge strikeOther strikeHeard failed isLast nothingMore receive stored handle respond heard frameRule newly giveUpTo giveUpAt giveUpFlight queueRefusal accepted queueRule nobody onWire startAt startDown ringOf queue handed delivered replyOf deliver stepOn step steps rowOf rowOn afterEvent composed final frames stepping width decimal cell frontText endsText backText rowText rowsText answerText words valueFrom isNumber same shaped lineOfWords lineOf linesOf opens does prints printed output own before shorts octetsOnWire
 all-hold = refl

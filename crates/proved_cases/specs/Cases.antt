@@ -1,5 +1,7 @@
 -- The page's cases: for each, what the definitions give and what the page says.
 use Prim.Native.Nat.{ℕ, zero, suc, _+_, _-_, _*_}
+use Prim.Native.Char.{code}
+use Prim.Native.String.{String, [] as end, _∷_ as _∷ₛ_}
 use mathlib.Core.Bool.{cond}
 use mathlib.Core.List.{List, [], _∷_, _++_}
 use lib.ListN.{length, take, replicate}
@@ -10,6 +12,11 @@ use Rattle.parts.specs.declared.frame.Whom.the-variants.{Nobody}
 use Rattle.parts.specs.declared.frame.Frame.the-variants.{Token}
 use Rattle.parts.specs.declared.frame.Dispatch.the-variants.{Sent}
 use Rattle.station.specs.Heard.{acknowledges}
+use Rattle.bench.specs.Calls.{queue}
+use Rattle.bench.specs.Runs.{queued, stepping}
+use Rattle.bench.specs.Text.{lineFeed}
+use Rattle.bench.specs.Script.{output}
+use Rattle.waiting.specs.Waiting.{spotFor, before, shorts, octetsOnWire, atQueue}
 
 pub record Case : Type 0 where
   pub given : List ℕ
@@ -40,8 +47,28 @@ wire n = wireOctets (information 1 0 0 n)
 acknowledgedBy : ℕ → ℕ → ℕ → ℕ
 acknowledgedBy k j from = cond (acknowledges (Sent (Token k 0 0 Nobody 0) 1) from j) 1 0
 
+-- the octets of a text, and of lines of text
+octets : String → List ℕ
+octets end = []
+octets (c ∷ₛ s) = code c ∷ octets s
+
+lines : List String → List ℕ
+lines [] = []
+lines (l ∷ ls) = octets l ++ lineFeed ∷ lines ls
+
+-- what the bench prints for a script
+bench : List String → List ℕ
+bench script = output (lines script)
+
+-- the short frames and the octets before a message's own frame, in the run that reaches the bound on a ring of n
+waits : ℕ → List ℕ
+waits n =
+    let b = atQueue n (queued (n - 1) 1 5 0 1492 ∷ []) in
+    let rows = before (spotFor b 0) (queue b 0 1 9 0 0 .bench) (stepping (2 * n + 3)) in
+    shorts rows ∷ octetsOnWire rows ∷ []
+
 unfoldable pub cases : List Case
-unfolding members ring file back wire acknowledgedBy
+unfolding members ring file back wire acknowledgedBy octets lines bench waits
 cases =
     record { given = file 3 2; page = 0x10 ∷ 0x88 ∷ 20 ∷ [] }
     ∷ record { given = back 3 2; page = 0 ∷ 3 ∷ 2 ∷ [] }
@@ -49,4 +76,35 @@ cases =
     ∷ record { given = back 64 15; page = 0 ∷ 64 ∷ 15 ∷ [] }
     ∷ record { given = wire 0 ∷ wire 38 ∷ wire 39 ∷ wire 1492 ∷ []; page = 72 ∷ 72 ∷ 73 ∷ 1526 ∷ [] }
     ∷ record { given = acknowledgedBy 65535 0 1 ∷ acknowledgedBy 65535 0 2 ∷ acknowledgedBy 65535 1 1 ∷ []; page = 1 ∷ 0 ∷ 0 ∷ [] }
+    -- the ten frames
+    ∷ record {
+      given = bench ("ring 3" ∷ "queue 1 2 5 0 100" ∷ "queue 0 1 9 0 0" ∷ "step 9" ∷ []);
+      page = lines
+          ("no kind from to prio octets"
+          ∷ "0 T 0 1 0 72"
+          ∷ "1 T 1 2 5 72"
+          ∷ "2 T 2 0 5 72"
+          ∷ "3 G 0 1 5 72"
+          ∷ "4 I 1 2 5 134"
+          ∷ "5 T 2 0 0 72"
+          ∷ "6 T 0 1 9 72"
+          ∷ "7 T 1 2 9 72"
+          ∷ "8 G 2 0 9 72"
+          ∷ "9 I 0 1 9 72"
+          ∷ []);
+    }
+    -- equal priorities at 1 and 2, master 0: 1 is granted
+    ∷ record {
+      given = bench ("ring 3" ∷ "queue 1 2 5 0 10" ∷ "queue 2 1 5 0 20" ∷ "step 4" ∷ []);
+      page = lines
+          ("no kind from to prio octets"
+          ∷ "0 T 0 1 0 72"
+          ∷ "1 T 1 2 5 72"
+          ∷ "2 T 2 0 5 72"
+          ∷ "3 G 0 1 5 72"
+          ∷ "4 I 1 2 5 72"
+          ∷ []);
+    }
+    -- the bound for N = 3
+    ∷ record { given = waits 3; page = 7 ∷ 2030 ∷ [] }
     ∷ []

@@ -2,17 +2,15 @@
 use mathlib.Core.Path.{_≡_, refl, sym, ap, _∙_}
 use mathlib.Core.Bool.{Bool, true, false, cond, _&&_, false≢true}
 use mathlib.Core.List.{List, [], _∷_}
-use Prim.Native.Nat.{ℕ, zero, suc, _+_, _*_, _<_, _≤_}
-use native.Mathlib.Numerals.{add-one}
+use Prim.Native.Nat.{ℕ, suc, _+_, _<_, _≤_}
 use native.Mathlib.Omega.{arith}
-use lib.Dec.{ltb, leb, eqb}
+use lib.Dec.{ltb}
 use lib.ListN.{length, getD, take, drop}
 use lib.Seq.{length-take-le}
 use borrow.Author.Tests.{lt-ltb, le-ltb, ltb-true, ltb-false, leb-true, eq-eqb, eqb-true}
-use Rattle.codec.specs.Order.{firstOf}
-use Rattle.parts.specs.Choose.{pick, allOf, every}
+use Rattle.parts.specs.Choose.{pick, every}
 use Rattle.parts.proofs.Laws.Choose.{pick-true, pick-false, pick-and}
-use Rattle.bench.specs.Lines.{words, wordsBehind, firstWord, isNumber, value, valueAt, wordAt, same, shaped, ringWord, queueWord, stepWord, lineOfWords, lineOf, numberOr, joined, joinedAll, noNumbers, numbersOf}
+use Rattle.bench.specs.Lines.{wordsBehind, firstWord, isNumber, value, valueAt, same, shaped, ringWord, queueWord, stepWord, lineOfWords, lineOf, numberOr, joined, joinedAll, noNumbers, numbersOf}
 use Rattle.bench.specs.declared.lines.Numbers.{Numbers}
 use Rattle.bench.specs.declared.lines.Line.{Line}
 use Rattle.bench.specs.declared.lines.Line.the-variants.{Ring, Queue, Step, Bad}

@@ -1,19 +1,18 @@
 -- Laws of the numbers of a line: digit by digit, and word by word. Assumes nothing.
 use mathlib.Core.Path.{_≡_, refl, sym, ap, _∙_}
 use mathlib.Core.Bool.{Bool, true, false, false≢true}
-use mathlib.Core.List.{List, [], _∷_}
-use Prim.Native.Nat.{ℕ, zero, suc, _+_, _*_, _-_, _^_, _<_, _≤_, zero-le, suc-le-suc}
+use mathlib.Core.List.{List, _∷_}
+use Prim.Native.Nat.{ℕ, suc, _+_, _*_, _-_, _^_, _<_, _≤_, zero-le, suc-le-suc}
 use native.Mathlib.Nat.{pow-suc, pow-le-pow-right}
 use native.Mathlib.Numerals.{add-one}
 use native.Mathlib.Omega.{arith}
-use lib.Dec.{ltb, leb, eqb}
 use lib.ListN.{length, getD, take, drop, length-drop}
-use borrow.Author.Tests.{le-leb, lt-leb, leb-true, leb-false}
-use Rattle.parts.specs.Choose.{pick, allOf, every}
-use Rattle.parts.proofs.Laws.Choose.{pick-true, pick-false, pick-and}
+use borrow.Author.Tests.{le-leb, lt-leb, leb-true}
+use Rattle.parts.specs.Choose.{pick, every}
+use Rattle.parts.proofs.Laws.Choose.{pick-true, pick-false}
 use Rattle.parts.proofs.Laws.Tests.{held, hold, both}
 use lib.Seq.{take-all, drop-drop, drop-cons}
-use Rattle.bench.specs.Lines.{isDigit, valueFrom, value, isNumber, numberOr, words, firstWord, wordsBehind, joined, joinedAll, noNumbers, numbersOf}
+use Rattle.bench.specs.Lines.{isDigit, valueFrom, value, isNumber, numberOr, firstWord, wordsBehind, joined, joinedAll}
 use Rattle.bench.specs.declared.lines.Numbers.{Numbers}
 use Rattle.bench.proofs.Laws.Words.{past, first-short, first-taken, words-first, behind-space, behind-end}
 

@@ -1,17 +1,17 @@
 -- Laws of a session's calls: each answer of the code is the one that the definitions give. Assumes nothing.
 use mathlib.Core.Path.{_≡_, refl, sym, ap, _∙_, subst⁻¹}
-use mathlib.Core.Bool.{Bool, true, false, not, false≢true}
-use mathlib.Core.List.{List, [], _∷_, _++_}
+use mathlib.Core.Bool.{Bool, true, false, not}
+use mathlib.Core.List.{List, [], _++_}
 use Prim.Native.Nat.{ℕ, _+_, _-_, _/_, _<_, _≤_}
 use native.Mathlib.Omega.{arith}
 use lib.Dec.{ltb, leb}
 use lib.ListN.{length}
-use borrow.Author.Tests.{le-leb, lt-leb, leb-true, ltb-true, ltb-false, not-true, not-false}
+use borrow.Author.Tests.{le-leb, lt-leb, leb-true, ltb-true, not-true, not-false}
 use Rattle.codec.specs.Octets.{laid}
 use Rattle.codec.proofs.Laws.Octets.{laid-none}
 use Rattle.parts.specs.Choose.{pick, allOf}
 use Rattle.parts.proofs.Laws.Choose.{pick-true, pick-false}
-use Rattle.bench.specs.Ring.{ringOf, emptyBench, startDown}
+use Rattle.bench.specs.Ring.{ringOf, startDown}
 use Rattle.bench.specs.Delivery.{steps}
 use Rattle.bench.specs.Calls.{queue}
 use Rattle.bench.specs.Rows.{rowsOn}
@@ -94,6 +94,10 @@ refuse-some l l₁ at r h p q =
     rw z (p, q)
 
 -- ---- the three lines that do something
+
+pub turned-down : (s : Session) (at used : ℕ) → used ≡ at + length badLine
+    → _≡_ {A = Acted} (record { session = s; used = used; left = 0; done = true }) (actedBy s badLine at 0)
+turned-down s at used e = ap (λ (x : ℕ). record { session = s; used = x; left = 0; done = true }) e
 
 -- what the code hands back
 abbrev pub actedOn : Bench → ℕ → ℕ → Acted
@@ -205,10 +209,9 @@ module _ (s : Session) (l : Line) (out : List ℕ) (at : ℕ) where
       )
 
   module _ (h : 64 ≤ length out - at) where
-    pub obey-refused : (used : ℕ) (out₁ : List ℕ) → refuses (s .begun) l ≡ true → out₁ ≡ laid out at badLine → used ≡ at + length badLine
-        → Obeyed s l out at (record { session = s; used = used; left = 0; done = true }) out₁
-    obey-refused used out₁ r p u =
-        obey-by _ out₁ s badLine 0 h (refused-outcome s (length out - at) l r) (ap (λ (x : ℕ). record { session = s; used = x; left = 0; done = true }) u) p
+    pub obey-refused : (r : Acted) (out₁ : List ℕ) → refuses (s .begun) l ≡ true → r ≡ actedBy s badLine at 0 → out₁ ≡ laid out at badLine
+        → Obeyed s l out at r out₁
+    obey-refused r out₁ t = obey-by r out₁ s badLine 0 h (refused-outcome s (length out - at) l t)
 
     module _ (r : Acted) (out₁ : List ℕ) (taken : refuses (s .begun) l ≡ false) where
       pub obey-ring : (n : ℕ) → l ≡ Ring n → r ≡ actedBy (onBench (ringOf n)) (ringText n) at 0 → out₁ ≡ laid out at (ringText n) → Obeyed s l out at r out₁
@@ -234,6 +237,3 @@ module _ (s : Session) (l : Line) (out : List ℕ) (at : ℕ) where
           obey-by r out₁ (onBench (steps k (s .bench))) (stepsText k (s .bench)) (count - k) h
           (subst⁻¹ (λ (x : Line). Outcome s x (length out - at) (onBench (steps k (s .bench))) (stepsText k (s .bench)) (count - k)) e
           (step-outcome s (length out - at) count (ap (refuses (s .begun)) (sym e) ∙ taken)))
-
-      pub obey-bad : l ≡ Bad → Obeyed s l out at r out₁
-      obey-bad e = absurd (false≢true (sym taken ∙ sym (refuses-bad (s .begun) l e)))

@@ -64,7 +64,7 @@ stands-waits e (at-rest o x i) = absurd (o e)
 -- ---- what each answers
 
 module _ {n : ℕ} {at : ℕ → Station} {from : ℕ} {f : Frame} {to : ℕ} (w : Picture n at from f to) where
-  hears-at : (p : ℕ) → p < n → (p ≡ from → ⊥) → Hears n p (at p) f from to
+  pub hears-at : (p : ℕ) → p < n → (p ≡ from → ⊥) → Hears n p (at p) f from to
   hears-at p h o =
       record {
         some-members = w .some-members;
@@ -84,7 +84,7 @@ module _ {n : ℕ} {at : ℕ → Station} {from : ℕ} {f : Frame} {to : ℕ} (w
   silent-at p h o x = stays-silent (hears-at p h o) (λ e. x (sym e))
 
   -- the addressee has not handled the frame
-  fresh : isLast (at to .turn .handled) (numberOf f) ≡ false
+  pub fresh : isLast (at to .turn .handled) (numberOf f) ≡ false
   fresh = not-last (w .handled to (w .addressee-member)) (omega (arith, longest-below n from f to (w .some-members) (w .fits), w .most-members))
 
   pub answer-at : Answering n to f (at to) (frameRule (at to) f from to)

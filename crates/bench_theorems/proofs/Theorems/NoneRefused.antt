@@ -82,7 +82,7 @@ unless-number s k a z = go (eqb k 0) refl
     go false e = refl
 
 -- a station that takes part runs its queue calls
-queues : {from before : ℕ} {f : Frame} {to p : ℕ} {s : Station} → Stands from before f to p s → moveOf (stateOf s) Queue ≡ runs
+pub queues : {from before : ℕ} {f : Frame} {to p : ℕ} {s : Station} → Stands from before f to p s → moveOf (stateOf s) Queue ≡ runs
 queues (sender e w a) = ap (λ (st : State). moveOf st Queue) w
 queues (last-sender o e w g a k) = ap (λ (st : State). moveOf st Queue) w
 queues (at-rest o e i) = ap (λ (st : State). moveOf st Queue) i

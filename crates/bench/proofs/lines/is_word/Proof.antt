@@ -1,6 +1,6 @@
 -- `lines::is_word` meets its contract. The loop's invariant: the rests from here are the same if and only if the words are.
 use mathlib.Core.Path.{_≡_, refl, sym, _∙_}
-use Prim.Native.Nat.{_+_, _-_, _≤_}
+use Prim.Native.Nat.{_-_, _≤_}
 use native.Mathlib.Omega.{arith}
 use lib.ListN.{length, drop}
 use Rattle.bench.specs.Lines.{same}

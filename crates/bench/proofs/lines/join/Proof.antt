@@ -1,5 +1,5 @@
 -- `lines::join` meets its contract: where there is room the number joins, else there are too many.
-use mathlib.Core.Path.{sym, _∙_}
+use mathlib.Core.Path.{sym}
 use borrow.Author.Tests.{lt-ltb, le-ltb}
 use Rattle.parts.proofs.Laws.Choose.{pick-true, pick-false}
 use Rattle.bench.specs.Lines.{joined}

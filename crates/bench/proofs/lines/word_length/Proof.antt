@@ -1,5 +1,5 @@
 -- `lines::word_length` meets its contract. The loop's invariant: what is left of the first word from here, and what was passed.
-use mathlib.Core.Path.{_≡_, refl, sym}
+use mathlib.Core.Path.{_≡_}
 use Prim.Native.Nat.{_+_, _-_, _≤_}
 use native.Mathlib.Omega.{arith}
 use lib.ListN.{length, drop}

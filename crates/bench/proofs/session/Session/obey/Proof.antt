@@ -1,7 +1,7 @@
 -- `Session::obey` meets its contract: want of room first, then refused lines, then by the line's shape.
 use mathlib.Core.Path.{sym, _∙_}
 use native.Mathlib.Omega.{arith}
-use Rattle.bench.proofs.Laws.Session.{taken-few, obey-short, obey-refused, obey-ring, obey-queue, obey-step, obey-bad}
+use Rattle.bench.proofs.Laws.Session.{refuses-bad, taken-few, obey-short, obey-refused, obey-ring, obey-queue, obey-step}
 use borrow.Author.Needs.{needs}
 use Rattle.bench.proofs.session.Session.obey.Statement.{statement}
 use Rattle.bench.proofs.session.Session.obey.Tie as tie
@@ -20,8 +20,8 @@ returns c =
 is-refused-requires : tie.Need-is-refused-requires
 is-refused-requires c κs = search needs
 
-put-bad-requires : tie.Need-put-bad-requires
-put-bad-requires c κs = search needs
+turn-down-requires : tie.Need-turn-down-requires
+turn-down-requires c κs = search needs
 
 same-length-2 : tie.Need-same-length-2
 same-length-2 c = search needs
@@ -29,8 +29,9 @@ same-length-2 c = search needs
 returns-2 : tie.Need-returns-2
 returns-2 c =
     let a = c .before .before .before .before .before .before .before .before .before .before .args in
-    obey-refused (a .self) (a .l) (a .out .now) (a .at) (omega (arith, c .before .before .before .before .before .before .before .room-from .ensures, c .before .before .before .before .before .before .if1 .left)) (c .before .before .put-bad .result) _
-    (sym (c .before .before .before .before .before .is-refused .ensures) ∙ c .before .before .before .before .if2 .taken) (c .before .before .put-bad .ensures .0) (c .before .before .put-bad .ensures .1)
+    let t = c .before .before .turn-down in
+    obey-refused (a .self) (a .l) (a .out .now) (a .at) (omega (arith, c .before .before .before .before .before .before .before .room-from .ensures, c .before .before .before .before .before .before .if1 .left)) (t .result) _
+    (sym (c .before .before .before .before .before .is-refused .ensures) ∙ c .before .before .before .before .if2 .taken) (t .ensures .0) (t .ensures .1)
 
 enum-known-l : tie.Need-enum-known-l
 enum-known-l c = search needs
@@ -56,6 +57,9 @@ advance-requires c κs = search needs
 
 enum-told : tie.Need-enum-told
 enum-told c = search needs
+
+turn-down-requires-2 : tie.Need-turn-down-requires-2
+turn-down-requires-2 c κs = search needs
 
 same-length-3 : tie.Need-same-length-3
 same-length-3 c = search needs
@@ -89,8 +93,10 @@ same-length-6 c = search needs
 
 returns-6 : tie.Need-returns-6
 returns-6 c =
-    let a = c .before .before .before .before .before .before .before .before .args in
-    obey-bad (a .self) (a .l) (a .out .now) (a .at) (omega (arith, c .before .before .before .before .before .room-from .ensures, c .before .before .before .before .if1 .left)) _ _ (sym (c .before .before .before .is-refused .ensures) ∙ c .before .before .if2 .left) (c .enum-told .given .1)
+    let a = c .before .before .before .before .before .before .before .before .before .before .before .before .args in
+    let t = c .before .before .turn-down2 in
+    obey-refused (a .self) (a .l) (a .out .now) (a .at) (omega (arith, c .before .before .before .before .before .before .before .before .before .room-from .ensures, c .before .before .before .before .before .before .before .before .if1 .left)) (t .result) _
+    (sym (refuses-bad (a .self .begun) (a .l) (c .before .before .before .before .enum-told .given .1))) (t .ensures .0) (t .ensures .1)
 
 pub obey-spec : {M : Type 1} → statement M
 obey-spec =
@@ -100,7 +106,7 @@ obey-spec =
     same-length
     returns
     is-refused-requires
-    put-bad-requires
+    turn-down-requires
     same-length-2
     returns-2
     enum-known-l
@@ -110,6 +116,7 @@ obey-spec =
     enum-known-l-3
     advance-requires
     enum-told
+    turn-down-requires-2
     same-length-3
     returns-3
     same-length-4

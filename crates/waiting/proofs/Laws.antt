@@ -1,0 +1,24 @@
+-- Laws that the theorems use, one idea a file.
+pub mod Ahead
+pub mod Rounds
+pub mod Turning
+pub mod TopHead
+pub mod Staying
+pub mod Joining
+pub mod Queueing
+pub mod Own
+pub mod Counting
+pub mod Stepping
+pub mod Running
+pub mod Keeping
+pub mod RunWaiting
+pub mod RunStep
+pub mod RunState
+pub mod RunReplies
+pub mod RunCounts
+pub mod RunAhead
+pub mod RunTokens
+pub mod RunQueue
+pub mod TightLoad
+pub mod TightRun
+pub mod TightStart

@@ -1,0 +1,80 @@
+-- Demand 3: on a fault-free ring of N stations, from 2 to 64, an accepted message that stays strictly above every other waiting one until
+-- it goes waits for at most 2N+1 short frames and one foreign information frame; it goes no later than as the (2N+3)th frame composed after
+-- its acceptance, and what goes is the message. Whatever ran before, and whatever queue calls fall between the steps. Assumes nothing.
+use mathlib.Core.Path.{_≡_, refl, subst, _∙_}
+use mathlib.Core.Bool.{true, false}
+use mathlib.Core.List.{List, _∷_, _++_}
+use Prim.Native.Nat.{ℕ, _+_, _*_, _<_, _≤_}
+use native.Mathlib.Omega.{arith}
+use Rattle.station.specs.Round.{informationOf}
+use Rattle.station.specs.Queue.{newMessage}
+use Rattle.parts.specs.declared.list.Message.{Message}
+use Rattle.bench.specs.Ring.{stationAt}
+use Rattle.bench.specs.Delivery.{step}
+use Rattle.bench.specs.Calls.{queue}
+use Rattle.bench.specs.Runs.{Event, stepped, final}
+use Rattle.bench.specs.declared.ring.Bench.{Bench}
+use Rattle.bench_theorems.specs.Counting.{stepsIn}
+use Rattle.bench_theorems.specs.Quiet.{Quiet}
+use Rattle.bench_theorems.proofs.Laws.Queueing.{quiet-queue}
+use Rattle.bench_theorems.proofs.Theorems.ReachedQuiet.{reached-quiet, reached-n}
+use Rattle.waiting.specs.Waiting.{Spot, spotFor, own, goes, Waits, StaysOnTop, atQueue, WithinBound}
+use Rattle.waiting.proofs.Laws.Queueing.{accepted-waits, queue-n}
+use Rattle.waiting.proofs.Laws.Stepping.{Holds}
+use Rattle.waiting.proofs.Laws.Running.{runs-so, top-now}
+use Rattle.waiting.proofs.Laws.Keeping.{ranked, until-it-goes, own-is-its}
+
+-- the message m was accepted at the spot x, which left the bench b; `after` is what comes then
+pub record Bound (n : ℕ) (x : Spot) (m : Message) (b : Bench) (after : List Event) : Type 0 where
+  -- short frames, information frames and octets before its own, and which frame its own is
+  pub within : WithinBound n x b after
+  -- its own is composed, once so many frames are
+  pub it-goes : 2 * n + 3 ≤ stepsIn after → goes x b after ≡ true
+  -- in every state before that the message is in the send list of its station, and waits
+  pub waits-until : (es rest : List Event) → after ≡ es ++ rest → goes x b es ≡ false → Waits (final b es) (x .station) m
+  -- the frame that is its own is the message's information frame, from its station to its destination
+  pub own-frame : (es rest : List Event) → after ≡ es ++ (stepped ∷ rest) → goes x b es ≡ false → own x (step (final b es) .wire) ≡ true
+      → (number : ℕ) × (step (final b es) .wire ≡ record { from = x .station; sent = informationOf number m })
+
+module _ (n : ℕ) (x : Spot) (m : Message) (b : Bench) (h : Holds n x m b) (after : List Event) (t : StaysOnTop x (m .priority) b after) where
+  held-bound : Bound n x m b after
+  held-bound =
+      let a = ranked n x m b h in
+      let r = runs-so n x m after b h (a .short) (a .info) (a .rank) t in
+      let c = r .counts in
+      record {
+        within =
+            record {
+              short-frames = omega (arith, c .few-short, a .few-short);
+              information-frames = omega (arith, c .few-information, a .one-information);
+              octets = omega (arith, c .octets, c .few-short, a .few-short, c .few-information, a .one-information);
+              not-later = omega (arith, c .all-counted, c .few-short, a .few-short, c .few-information, a .one-information);
+            };
+        it-goes = λ l. r .goes-then (omega (arith, a .few-short, a .one-information));
+        waits-until = λ es rest e g. until-it-goes n x m es rest b h (subst (StaysOnTop x (m .priority) b) e t) g .holds .waits;
+        own-frame = λ es rest e g o.
+            let s = until-it-goes n x m es (stepped ∷ rest) b h (subst (StaysOnTop x (m .priority) b) e t) g in
+            own-is-its n x m (final b es) (s .holds) (top-now x (m .priority) (final b es) (stepped ∷ rest) (s .on-top)) o;
+      }
+
+-- every ring, every run, every accepted call, and everything after it
+pub bound : (n : ℕ) → 2 ≤ n → n ≤ 64 → (es : List Event) (from to priority channel length : ℕ)
+    → queue (atQueue n es) from to priority channel length .number ≡ 0
+    → (after : List Event)
+    → StaysOnTop (spotFor (atQueue n es) from) priority (queue (atQueue n es) from to priority channel length .bench) after
+    → Bound n (spotFor (atQueue n es) from) (newMessage (stationAt (atQueue n es) from) to priority channel length)
+    (queue (atQueue n es) from to priority channel length .bench) after
+bound n two most es from to priority channel length z after t =
+    let b : Bench = atQueue n es in
+    let q : Quiet b = reached-quiet n two most es in
+    let size : b .n ≡ n = reached-n n two most es in
+    let a = accepted-waits b q from to priority channel length z in
+    held-bound n (spotFor b from) (newMessage (stationAt b from) to priority channel length) (queue b from to priority channel length .bench)
+    (record {
+      quiet = quiet-queue b q from to priority channel length;
+      size = queue-n b q from to priority channel length ∙ size;
+      member = subst (λ (i : ℕ). from < i) size (a .member);
+      place = refl;
+      waits = a .waits;
+    })
+    after t

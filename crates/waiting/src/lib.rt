@@ -1,0 +1,1 @@
+// Demand 3, how long a message waits: theorems, no code.
