@@ -21,8 +21,8 @@ pub struct Message {
     pub other: u8,
     pub priority: u8,
     pub channel: u8,
-    pub length: u16,
     pub place: u8,
+    pub length: u16,
 }
 
 // The first `len` items; the others are blank.
