@@ -1,17 +1,12 @@
 //! The bench of document 01 in plain Rust, written from the page alone: the same script on standard
-//! input, the same lines on standard output. Its stations know what a fault-free ring needs and no
-//! more: everybody is live, no timer runs.
+//! input, the same lines on standard output. Its stations are those of `rtep::ring`.
 
-use std::cmp::Reverse;
+use rtep::ring::{Frame, Kind, Ring};
 use std::io::{self, BufRead, BufReader, Write};
 
 const BLOCK: usize = 1 << 16;
 /// No good line is longer: `queue` and five numbers of five digits.
 const LONGEST_LINE: usize = 35;
-
-const MESSAGES: usize = 16;
-const CHANNELS: u16 = 8;
-const LONGEST_PAYLOAD: u16 = 1492;
 
 fn main() -> io::Result<()> {
     let mut session = Session { ring: None, out: Out::new() };
@@ -118,215 +113,6 @@ impl Session {
     }
 }
 
-/// The table of stations, and the one frame on the wire.
-struct Ring {
-    stations: Vec<Station>,
-    wire: Frame,
-}
-
-impl Ring {
-    /// Stations start from N−1 down to 0; only station 0 sends.
-    fn start(members: u8) -> Ring {
-        let mut stations: Vec<_> = (0..members).map(|own| Station::new(own, members)).collect();
-        let wire = stations[0].start();
-        Ring { stations, wire }
-    }
-
-    /// Hands the frame to every other station and puts the addressee's new frame on the wire.
-    fn step(&mut self) {
-        let heard = self.wire;
-        for station in &mut self.stations {
-            if station.own != heard.from {
-                if let Some(answer) = station.hear(&heard) {
-                    self.wire = answer;
-                }
-            }
-        }
-    }
-
-    fn queue(
-        &mut self,
-        from: u16,
-        to: u16,
-        priority: u16,
-        channel: u16,
-        length: u16,
-    ) -> Result<(), u16> {
-        let members = self.stations.len() as u16;
-        let station = self.stations.get_mut(usize::from(from)).ok_or(15u16)?;
-        let priority = u8::try_from(priority).ok().filter(|&priority| priority > 0).ok_or(14u16)?;
-        if to >= members || to == from {
-            return Err(15);
-        }
-        if channel >= CHANNELS {
-            return Err(17);
-        }
-        if length > LONGEST_PAYLOAD {
-            return Err(18);
-        }
-        if station.send.len() == MESSAGES {
-            return Err(19);
-        }
-        station.send.push(Message { other: to as u8, priority, channel: channel as u8, length });
-        Ok(())
-    }
-}
-
-#[derive(Clone, Copy)]
-struct Message {
-    /// Where it goes, in a send list; where it came from, in a receive list.
-    other: u8,
-    priority: u8,
-    channel: u8,
-    length: u16,
-}
-
-#[derive(Clone, Copy)]
-enum Kind {
-    Token { master: u8, named: u8 },
-    Transmit,
-    Information { channel: u8, length: u16 },
-}
-
-#[derive(Clone, Copy)]
-struct Frame {
-    number: u16,
-    from: u8,
-    to: u8,
-    priority: u8,
-    kind: Kind,
-}
-
-struct Awaited {
-    number: u16,
-    from: u8,
-    /// Where the send list has the message that the frame carries.
-    in_flight: Option<usize>,
-}
-
-struct Station {
-    own: u8,
-    successor: u8,
-    handled: Option<u16>,
-    /// The acknowledgement that is waited for, if the station is Waiting.
-    awaited: Option<Awaited>,
-    send: Vec<Message>,
-    received: Vec<Message>,
-    lost: u32,
-}
-
-impl Station {
-    fn new(own: u8, members: u8) -> Station {
-        Station {
-            own,
-            successor: (own + 1) % members,
-            handled: None,
-            awaited: None,
-            send: Vec::with_capacity(MESSAGES),
-            received: Vec::with_capacity(MESSAGES),
-            lost: 0,
-        }
-    }
-
-    fn start(&mut self) -> Frame {
-        let frame = self.round(0);
-        self.wait_for(&frame, None);
-        frame
-    }
-
-    fn hear(&mut self, frame: &Frame) -> Option<Frame> {
-        if let Some(awaited) = &self.awaited {
-            if awaited.from != frame.from || awaited.number != frame.number {
-                return None;
-            }
-            if let Some(index) = awaited.in_flight {
-                self.send.remove(index);
-            }
-            self.awaited = None;
-        }
-        if frame.to != self.own || self.handled == Some(frame.number) {
-            return None;
-        }
-        Some(self.answer(frame))
-    }
-
-    fn answer(&mut self, heard: &Frame) -> Frame {
-        self.handled = Some(heard.number);
-        let number = heard.number.wrapping_add(1);
-        let (frame, in_flight) = match heard.kind {
-            Kind::Token { master, .. } if master == self.own && heard.priority == 0 => {
-                (self.round(number), None)
-            }
-            Kind::Token { master, named } if master == self.own && named == self.own => {
-                self.send_head(number)
-            }
-            Kind::Token { master, named } if master == self.own => {
-                (self.frame(number, named, heard.priority, Kind::Transmit), None)
-            }
-            Kind::Token { master, named } => {
-                let own = self.head_priority();
-                let (priority, named) =
-                    if own > heard.priority { (own, self.own) } else { (heard.priority, named) };
-                (self.frame(number, self.successor, priority, Kind::Token { master, named }), None)
-            }
-            Kind::Transmit => self.send_head(number),
-            Kind::Information { channel, length } => {
-                self.receive(Message {
-                    other: heard.from,
-                    priority: heard.priority,
-                    channel,
-                    length,
-                });
-                (self.round(number), None)
-            }
-        };
-        self.wait_for(&frame, in_flight);
-        frame
-    }
-
-    fn wait_for(&mut self, frame: &Frame, in_flight: Option<usize>) {
-        self.awaited =
-            Some(Awaited { number: frame.number.wrapping_add(1), from: frame.to, in_flight });
-    }
-
-    fn frame(&self, number: u16, to: u8, priority: u8, kind: Kind) -> Frame {
-        Frame { number, from: self.own, to, priority, kind }
-    }
-
-    fn round(&self, number: u16) -> Frame {
-        let kind = Kind::Token { master: self.own, named: self.own };
-        self.frame(number, self.successor, self.head_priority(), kind)
-    }
-
-    fn send_head(&self, number: u16) -> (Frame, Option<usize>) {
-        match self.head() {
-            Some((index, message)) => {
-                let kind = Kind::Information { channel: message.channel, length: message.length };
-                (self.frame(number, message.other, message.priority, kind), Some(index))
-            }
-            None => (self.round(number), None),
-        }
-    }
-
-    /// The highest priority, the earliest accepted among equals. It is asked for only when no message
-    /// is in flight.
-    fn head(&self) -> Option<(usize, &Message)> {
-        self.send.iter().enumerate().min_by_key(|(_, message)| Reverse(message.priority))
-    }
-
-    fn head_priority(&self) -> u8 {
-        self.send.iter().map(|message| message.priority).max().unwrap_or(0)
-    }
-
-    fn receive(&mut self, message: Message) {
-        if self.received.len() < MESSAGES {
-            self.received.push(message);
-        } else {
-            self.lost = self.lost.saturating_add(1);
-        }
-    }
-}
-
 /// What is to be written, in blocks.
 struct Out {
     block: Vec<u8>,
@@ -368,17 +154,17 @@ impl Out {
 
     fn frame(&mut self, frame: &Frame) -> io::Result<()> {
         self.make_room()?;
-        let (kind, octets) = match frame.kind {
-            Kind::Token { .. } => (b'T', 72),
-            Kind::Transmit => (b'G', 72),
-            Kind::Information { length, .. } => (b'I', (34 + length).max(72)),
+        let kind = match frame.kind {
+            Kind::Token { .. } => b'T',
+            Kind::Transmit => b'G',
+            Kind::Information { .. } => b'I',
         };
         self.digits(frame.number);
         self.block.extend_from_slice(&[b' ', kind]);
         self.number(frame.from.into());
         self.number(frame.to.into());
         self.number(frame.priority.into());
-        self.number(octets);
+        self.number(frame.octets());
         self.block.push(b'\n');
         Ok(())
     }
