@@ -160,12 +160,15 @@ pub fn places_apart(l: Messages) -> bool
     ensures { λ r. ⌜ r ≡ apart [] (all l) ⌝ }
 {
     let k = parts::list::count(l);
+    let mut used = [false; 256];
     let mut i: usize = 0;
     while i < k {
         let m = l.items[i];
-        if parts::list::has_place(l, i, m.place) {
+        let p = m.place as usize;
+        if used[p] {
             return false;
         }
+        used[p] = true;
         i += 1;
     }
     true

@@ -2,52 +2,34 @@
 -- does and prints the rest. With room each call does at least one, so that the calls come to an end. Assumes nothing.
 use mathlib.Core.Path.{_≡_, refl, sym, ap, _∙_}
 use mathlib.Core.Bool.{Bool, true, false}
-use mathlib.Core.List.{List, _++_, append-assoc}
-use Prim.Native.Nat.{ℕ, zero, suc, _+_, _-_, _<_, _≤_}
+use mathlib.Core.List.{List, _++_}
+use Prim.Native.Nat.{ℕ, _+_, _-_, _<_, _≤_}
 use native.Mathlib.Omega.{arith}
 use borrow.Author.Tests.{le-leb}
 use Rattle.parts.specs.Choose.{pick}
 use Rattle.parts.proofs.Laws.Choose.{pick-true, pick-false}
-use Rattle.bench.specs.Delivery.{step, steps}
-use Rattle.bench.specs.Rows.{rowsOn}
-use Rattle.bench.specs.Runs.{afterEvent, composed, frames, stepping}
+use Rattle.bench.specs.Delivery.{steps}
+use Rattle.bench.specs.Runs.{frames, stepping}
 use Rattle.bench.specs.Text.{rowsText, badLine}
 use Rattle.bench.specs.Running.{fitting}
 use Rattle.bench.specs.Script.{onBench, does, prints}
 use Rattle.bench.specs.Session.{cut, leftOf, obeyed}
 use Rattle.bench.specs.declared.ring.Bench.{Bench}
-use Rattle.bench.specs.declared.rows.Row.{Row}
 use Rattle.bench.specs.declared.lines.Line.{Line}
 use Rattle.bench.specs.declared.lines.Line.the-variants.{Ring, Queue, Step, Bad}
 use Rattle.bench.specs.declared.session.Session.{Session}
 use Rattle.bench.specs.declared.session.Acted.{Acted}
-use Rattle.bench.proofs.Laws.Steps.{text-append}
+use Rattle.bench.proofs.Laws.Steps.{steps-add, frames-add, text-append}
 use Rattle.bench.proofs.Laws.Running.{fitting-some}
 use Rattle.bench.proofs.Laws.Session.{fitting-most}
 
 -- ---- steps in two parts
 
-pub steps-parts : (k j : ℕ) (b : Bench) → steps j (steps k b) ≡ steps (k + j) b
-unfolding steps
-steps-parts zero j b = let e : j ≡ 0 + j = omega arith in ap (λ (n : ℕ). steps n b) e
-steps-parts (suc k) j b =
-    let e : suc k + j ≡ suc (k + j) = omega arith in
-    steps-parts k j (step b) ∙ ap (λ (n : ℕ). steps n b) (sym e)
-
-frames-parts : (k j : ℕ) (b : Bench) → frames b (stepping k) ++ frames (steps k b) (stepping j) ≡ frames b (stepping (k + j))
-unfolding frames stepping steps afterEvent composed
-frames-parts zero j b = let e : j ≡ 0 + j = omega arith in ap (λ (n : ℕ). frames b (stepping n)) e
-frames-parts (suc k) j b =
-    let e : suc k + j ≡ suc (k + j) = omega arith in
-    append-assoc (rowsOn (step b .wire)) (frames (step b) (stepping k)) (frames (steps k (step b)) (stepping j))
-    ∙ ap (λ (l : List Row). rowsOn (step b .wire) ++ l) (frames-parts k j (step b))
-    ∙ ap (λ (n : ℕ). frames b (stepping n)) (sym e)
-
 abbrev stepped : Bench → ℕ → List ℕ
 stepped b k = rowsText (frames b (stepping k))
 
 text-parts : (k j : ℕ) (b : Bench) → stepped b k ++ stepped (steps k b) j ≡ stepped b (k + j)
-text-parts k j b = sym (text-append (frames b (stepping k)) (frames (steps k b) (stepping j))) ∙ ap rowsText (frames-parts k j b)
+text-parts k j b = sym (text-append (frames b (stepping k)) (frames (steps k b) (stepping j))) ∙ ap rowsText (sym (frames-add k j b))
 
 -- ---- a line in two parts
 
@@ -94,7 +76,7 @@ module _ (s : Session) (room : ℕ) where
             (now ∙ ap (λ (j : ℕ). onBench (steps j b)) f ∙ sym all, says ∙ ap (stepped b) f ∙ sym says-all);
         rest = λ h. (
           ap (λ (t : Session). does t (Step (pick (s .begun) (count - k) 0))) now
-              ∙ ap (λ (j : ℕ). onBench (steps j (steps k b))) z ∙ ap onBench (steps-parts k (count - k) b ∙ ap (λ (j : ℕ). steps j b) e) ∙ sym all,
+              ∙ ap (λ (j : ℕ). onBench (steps j (steps k b))) z ∙ ap onBench (sym (steps-add k (count - k) b) ∙ ap (λ (j : ℕ). steps j b) e) ∙ sym all,
           ap (λ (x : List ℕ). x ++ prints (pick (s .begun) (onBench (steps k b)) s) (Step (pick (s .begun) (count - k) 0))) says
               ∙ ap (λ (t : Session). stepped b k ++ prints t (Step (pick (s .begun) (count - k) 0))) now
               ∙ ap (λ (j : ℕ). stepped b k ++ stepped (steps k b) j) z ∙ text-parts k (count - k) b ∙ ap (stepped b) e ∙ sym says-all,
