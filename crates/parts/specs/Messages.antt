@@ -59,11 +59,13 @@ splitBy w l =
       gone = pack (only (fits w) (all l));
     }
 
-abbrev pub sorted : Which → Parts → Message → Parts
-sorted w d m =
-    pick (fits w m)
-    (record { kept = d .kept; gone = pushed (d .gone) m })
-    (record { kept = pushed (d .kept) m; gone = d .gone })
+-- those that fit, where `fitting`, or the others
+abbrev pub among : Which → Bool → Message → Bool
+among w fitting m = pick fitting (fits w m) (not (fits w m))
+
+-- one of the two parts
+unfoldable pub chosenBy : Which → Bool → Messages → Messages
+chosenBy w fitting l = pack (only (among w fitting) (all l))
 
 -- ---- the best of those that fit: the highest priority, the earliest among equals
 

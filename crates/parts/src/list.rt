@@ -1,16 +1,20 @@
 // Messages, and lists of at most 16 of them in order of acceptance.
 ghost use mathlib.Core.Path.{_≡_};
 ghost use lib.ListN.{take};
+ghost use Prim.Native.Nat.{_+_, _<_};
+ghost use Rattle.parts.specs.Choose.{pick};
 ghost use Rattle.parts.specs.Messages.{
   all,
   used,
+  blank,
   none,
   pushed,
   flies,
   fits,
   betterOf,
   best,
-  sorted,
+  among,
+  chosenBy,
   splitBy,
   hasPlace,
   lowestFree,
@@ -152,34 +156,57 @@ pub fn choose(l: Messages, w: Which) -> Best
     b
 }
 
-// Where one message goes.
-pub fn sort(d: Parts, w: Which, m: Message) -> Parts
-    ensures { λ r. ⌜ r ≡ sorted w d m ⌝ }
+// Whether a message is one of those that suit, where `fitting`, or of the others.
+pub fn is_among(w: Which, fitting: bool, m: Message) -> bool
+    ensures { λ r. ⌜ r ≡ among w fitting m ⌝ }
 {
-    let k = d.kept;
-    let g = d.gone;
-    if suits(w, m) {
-        let h = push(g, m);
-        return Parts { kept: k, gone: h };
+    if fitting { suits(w, m) } else { !suits(w, m) }
+}
+
+// What a slot gets: the message, where it is taken.
+pub fn slot(taken: bool, m: Message) -> Message
+    ensures { λ r. ⌜ r ≡ pick taken m blank ⌝ }
+{
+    if taken { m } else { BLANK }
+}
+
+// How many there are then.
+pub fn grown(taken: bool, k: usize) -> usize
+    requires { ⌜ k < 16 ⌝ }
+    ensures { λ r. ⌜ r ≡ pick taken (k + 1) k ⌝ }
+{
+    if taken { k + 1 } else { k }
+}
+
+// Those that suit, where `fitting`, or those that do not; in order. Slot `k` is blank until a message is taken.
+pub fn chosen(l: Messages, w: Which, fitting: bool) -> Messages
+    ensures { λ r. ⌜ r ≡ chosenBy w fitting l ⌝ }
+{
+    let n = count(l);
+    let mut items = [BLANK; 16];
+    let mut k: usize = 0;
+    let mut i: usize = 0;
+    while i < n {
+        let m = l.items[i];
+        let b = is_among(w, fitting, m);
+        let v = slot(b, m);
+        items[k] = v;
+        k = grown(b, k);
+        i += 1;
     }
-    let h = push(k, m);
-    Parts { kept: h, gone: g }
+    Messages {
+        items: items,
+        len: k,
+    }
 }
 
 // Those that suit go, the others stay; both in order.
 pub fn split(l: Messages, w: Which) -> Parts
     ensures { λ r. ⌜ r ≡ splitBy w l ⌝ }
 {
-    let n = count(l);
-    let e = empty();
-    let mut d = Parts { kept: e, gone: e };
-    let mut i: usize = 0;
-    while i < n {
-        let m = l.items[i];
-        d = sort(d, w, m);
-        i += 1;
-    }
-    d
+    let k = chosen(l, w, false);
+    let g = chosen(l, w, true);
+    Parts { kept: k, gone: g }
 }
 
 // Whether one of the first `k` messages has the place `p`.

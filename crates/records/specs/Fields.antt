@@ -1,6 +1,6 @@
 -- The record's fields: what a number in it stands for, and the number that stands for it. A field is good where writing what it is
 -- read as gives it back.
-use Prim.Native.Nat.{ℕ, zero, suc, _+_, _-_, _*_}
+use Prim.Native.Nat.{ℕ, zero, suc, _+_, _-_, _*_, max}
 use mathlib.Core.Bool.{Bool, true, false, not}
 use mathlib.Core.List.{List, [], _∷_, _++_}
 use lib.Dec.{ltb, leb, eqb}
@@ -191,6 +191,11 @@ liveFrom s = record { on = tab (flagAt s) 64 }
 unfoldable pub flagsGood : List ℕ → ℕ → ℕ → Bool
 flagsGood s at zero = true
 flagsGood s at (suc k) = pick (flagGood (numberAt s at 1)) (flagsGood s (suc at) k) false
+
+-- the greatest of k octets from a place on
+unfoldable pub greatest : List ℕ → ℕ → ℕ → ℕ
+greatest s at zero = 0
+greatest s at (suc k) = max (numberAt s at 1) (greatest s (suc at) k)
 
 abbrev pub liveOctets : Live → List ℕ
 liveOctets l = joined flagOctets (l .on)

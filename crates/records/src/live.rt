@@ -1,10 +1,10 @@
 // The live set in octets: 1 for a live position, 0 for another.
 ghost use mathlib.Core.Path.{_≡_};
-ghost use Prim.Native.Nat.{_+_, _≤_};
+ghost use Prim.Native.Nat.{_+_, _≤_, max};
 ghost use lib.ListN.{length};
 ghost use Rattle.codec.specs.Octets.{laid};
 ghost use Rattle.records.specs.Layout.{liveAt, recordLength};
-ghost use Rattle.records.specs.Fields.{flagFrom, flagNumber, flagGood, liveFrom, flagsGood, liveOctets};
+ghost use Rattle.records.specs.Fields.{flagFrom, flagNumber, liveFrom, flagsGood, greatest, liveOctets};
 use crate::layout::LIVE;
 use codec::octets::get;
 use codec::octets::put;
@@ -23,12 +23,6 @@ pub fn flag_number(on: bool) -> u64
     if on { 1 } else { 0 }
 }
 
-pub fn flag_good(x: u64) -> bool
-    ensures { λ r. ⌜ r ≡ flagGood x ⌝ }
-{
-    flag_number(flag_from(x)) == x
-}
-
 pub fn live_from(s: &[u8]) -> Live
     requires { ⌜ recordLength ≤ length (now s) ⌝ }
     ensures { λ r. ⌜ r ≡ liveFrom (now (s .entry)) ⌝ }
@@ -43,20 +37,32 @@ pub fn live_from(s: &[u8]) -> Live
     o
 }
 
+fn greater(a: u8, b: u8) -> u8
+    ensures { λ r. ⌜ r ≡ max a b ⌝ }
+{
+    if a < b { b } else { a }
+}
+
+// The greatest octet of the live set.
+fn greatest_flag(s: &[u8]) -> u8
+    requires { ⌜ recordLength ≤ length (now s) ⌝ }
+    ensures { λ r. ⌜ r ≡ greatest (now (s .entry)) liveAt 64 ⌝ }
+{
+    let mut most: u8 = 0;
+    let mut p: usize = 0;
+    while p < 64 {
+        most = greater(most, s[LIVE + p]);
+        p += 1;
+    }
+    most
+}
+
 // Whether each octet of the live set is a 0 or a 1.
 pub fn flags_good(s: &[u8]) -> bool
     requires { ⌜ recordLength ≤ length (now s) ⌝ }
     ensures { λ r. ⌜ r ≡ flagsGood (now (s .entry)) liveAt 64 ⌝ }
 {
-    let mut p: usize = 0;
-    while p < 64 {
-        let x = get(s, LIVE + p, 1);
-        if !flag_good(x) {
-            return false;
-        }
-        p += 1;
-    }
-    true
+    greatest_flag(s) < 2
 }
 
 pub fn put_live(out: &mut [u8], live: Live)

@@ -1,6 +1,6 @@
 -- Laws of messages and their lists. Assumes nothing.
 use mathlib.Core.Path.{_≡_, refl, sym, ap, _∙_}
-use mathlib.Core.Bool.{Bool, true, false, not}
+use mathlib.Core.Bool.{Bool, true, false}
 use mathlib.Core.List.{List, [], _∷_, _++_, append-nil, map}
 use Prim.Native.Nat.{ℕ, suc, _+_, _-_, _<_, _≤_}
 use native.Mathlib.Numerals.{add-one}
@@ -15,7 +15,7 @@ use Rattle.parts.specs.declared.list.Messages.{Messages}
 use Rattle.parts.specs.declared.list.Best.{Best}
 use Rattle.parts.specs.declared.list.Parts.{Parts}
 use Rattle.parts.specs.declared.list.Which.{Which}
-use Rattle.parts.specs.Messages.{all, used, blank, none, pack, pushed, fits, only, sorted, theBest, betterOf, bestOf, hasPlace, freeFrom}
+use Rattle.parts.specs.Messages.{all, used, blank, pack, pushed, fits, only, splitBy, chosenBy, theBest, betterOf, bestOf, hasPlace, freeFrom}
 use Rattle.parts.proofs.Laws.Choose.{pick-true, pick-false}
 
 -- what owning an array of structs tells of its list
@@ -210,59 +210,73 @@ module _ (w : Which) (b : Best) (m : Message) where
     unfolding betterOf
     better-kept f h = pick-true _ b e ∙ pick-true _ (theBest m) f ∙ pick-false (theBest m) b (le-ltb (b .message .priority) (m .priority) h)
 
--- ---- the two parts of a list
+-- ---- one part of a list
 
-abbrev pub parts : Which → List Message → Parts
-parts w ms = record { kept = pack (only (λ (m : Message). not (fits w m)) ms); gone = pack (only (fits w) ms) }
+pack-none : record { items = replicate 16 blank; len = 0 } ≡ pack []
+unfolding pack
+pack-none = refl
 
-module _ (w : Which) (d : Parts) (m : Message) (h : Messages) where
-  pub sorted-gone : fits w m ≡ true → h ≡ pushed (d .gone) m → record { kept = d .kept; gone = h } ≡ sorted w d m
-  sorted-gone e p = ap (λ (x : Messages). let r : Parts = record { kept = d .kept; gone = x } in r) p ∙ sym (pick-true _ _ e)
+-- a blank stored behind the last changes nothing
+pack-same : (ms : List Message) → length ms < 16 → set (pack ms .items) (pack ms .len) blank ≡ pack ms .items
+unfolding pack
+pack-same ms h =
+    let one : 16 - length ms ≡ suc (15 - length ms) = omega arith in
+    rw (one, set-at ms blank (replicate (15 - length ms) blank) blank (length ms) refl)
 
-  pub sorted-kept : fits w m ≡ false → h ≡ pushed (d .kept) m → record { kept = h; gone = d .gone } ≡ sorted w d m
-  sorted-kept e p = ap (λ (x : Messages). let r : Parts = record { kept = x; gone = d .gone } in r) p ∙ sym (pick-false _ _ e)
+pack-len : (ms : List Message) → pack ms .len ≡ length ms
+unfolding pack
+pack-len ms = refl
 
-pub parts-none : (w : Which) → parts w [] ≡ record { kept = none; gone = none }
-unfolding pack only
-parts-none w = refl
+-- what one turn makes of a list: the message or a blank in the next slot
+abbrev turned : Bool → Messages → Message → Messages
+turned b o m = record { items = set (o .items) (o .len) (pick b m blank); len = pick b (o .len + 1) (o .len) }
 
-pub parts-more : (w : Which) (ms : List Message) (m : Message) → length ms < 16 → sorted w (parts w ms) m ≡ parts w (ms ++ (m ∷ []))
-parts-more w ms m h = go (fits w m) refl
-  where
-    others : Message → Bool
-    others x = not (fits w x)
+module _ (f : Message → Bool) (ms : List Message) (m : Message) (room : length ms < 16) where
+  chosen-more : turned (f m) (pack (only f ms)) m ≡ pack (only f (ms ++ (m ∷ [])))
+  chosen-more = go (f m) refl
+    where
+      short : length (only f ms) < 16
+      short = omega (arith, only-length f ms)
 
-    go : (b : Bool) → fits w m ≡ b → sorted w (parts w ms) m ≡ parts w (ms ++ (m ∷ []))
-    go true e =
-        let n : others m ≡ false = ap not e in
-        pick-true _ _ e
-        ∙ rw (
-          only-append others ms (m ∷ []),
-          only-append (fits w) ms (m ∷ []),
-          only-one (fits w) m [] e,
-          only-not others m [] n,
-          only-none others,
-          only-none (fits w),
-          append-nil,
-          pack-more (only (fits w) ms) m (omega (arith, only-length (fits w) ms)),
-        )
-    go false e =
-        let n : others m ≡ true = ap not e in
-        pick-false _ _ e
-        ∙ rw (
-          only-append others ms (m ∷ []),
-          only-append (fits w) ms (m ∷ []),
-          only-one others m [] n,
-          only-not (fits w) m [] e,
-          only-none others,
-          only-none (fits w),
-          append-nil,
-          pack-more (only others ms) m (omega (arith, only-length others ms)),
-        )
+      inside : pack (only f ms) .len < 16
+      inside = rw (pack-len (only f ms)) short
 
--- a turn of the loop that sorts
-pub parts-turn : (w : Which) (ms ns : List Message) (m : Message) (d r : Parts) → length ms < 16 → ns ≡ ms ++ (m ∷ []) → d ≡ parts w ms → r ≡ sorted w d m → r ≡ parts w ns
-parts-turn w ms ns m d r h e f g = g ∙ ap (λ (x : Parts). sorted w x m) f ∙ parts-more w ms m h ∙ ap (parts w) (sym e)
+      go : (b : Bool) → f m ≡ b → turned b (pack (only f ms)) m ≡ pack (only f (ms ++ (m ∷ [])))
+      go true e =
+          rw (pick-true m blank refl, pick-true (pack (only f ms) .len + 1) (pack (only f ms) .len) refl)
+          (sym (pushed-inside (pack (only f ms)) m inside)
+          ∙ pack-more (only f ms) m short
+          ∙ ap pack (sym (only-append f ms (m ∷ []) ∙ ap (λ (l : List Message). only f ms ++ l) (only-one f m [] e ∙ ap (λ (l : List Message). m ∷ l) (only-none f)))))
+      go false e =
+          rw (pick-false m blank refl, pick-false (pack (only f ms) .len + 1) (pack (only f ms) .len) refl)
+          (ap (λ (x : List Message). let r : Messages = record { items = x; len = pack (only f ms) .len } in r) (pack-same (only f ms) short)
+          ∙ ap pack (sym (only-append f ms (m ∷ []) ∙ ap (λ (l : List Message). only f ms ++ l) (only-not f m [] e ∙ only-none f) ∙ append-nil (only f ms))))
+
+abbrev pub stored : List Message → ℕ → Messages
+stored items k = record { items = items; len = k }
+
+pub grown-most : (b : Bool) (k : ℕ) → pick b (k + 1) k ≤ k + 1
+grown-most true k = rw (pick-true (k + 1) k refl) (omega arith)
+grown-most false k = rw (pick-false (k + 1) k refl) (omega arith)
+
+-- a turn of the loop that chooses
+pub chosen-turn : (f : Message → Bool) (ms ns : List Message) (m v : Message) (items : List Message) (k n : ℕ) (b : Bool)
+    → length ms < 16 → ns ≡ ms ++ (m ∷ []) → stored items k ≡ pack (only f ms)
+    → b ≡ f m → v ≡ pick b m blank → n ≡ pick b (k + 1) k → stored (set items k v) n ≡ pack (only f ns)
+chosen-turn f ms ns m v items k n b room e o t p q =
+    ap (λ (x : Message). stored (set items k x) n) p
+    ∙ ap (stored (set items k (pick b m blank))) q
+    ∙ ap (λ (c : Bool). turned c (stored items k) m) t
+    ∙ ap (λ (x : Messages). turned (f m) x m) o
+    ∙ chosen-more f ms m room
+    ∙ ap (λ (l : List Message). pack (only f l)) (sym e)
+
+pub chosen-none : (f : Message → Bool) → stored (replicate 16 blank) 0 ≡ pack (only f [])
+chosen-none f = pack-none ∙ ap pack (sym (only-none f))
+
+pub both-parts : (w : Which) (l k g : Messages) → k ≡ chosenBy w false l → g ≡ chosenBy w true l → record { kept = k; gone = g } ≡ splitBy w l
+unfolding splitBy chosenBy pick
+both-parts w l k g p q = ap (λ (x : Messages). let r : Parts = record { kept = x; gone = g } in r) p ∙ ap (λ (x : Messages). let r : Parts = record { kept = chosenBy w false l; gone = x } in r) q
 
 -- ---- the loop over places
 
