@@ -208,11 +208,12 @@ static void done_or_dropped(const char *call, uint32_t number)
     else if (number == RTEP_BUFFER || number == RTEP_NOT_WHOLE) fail(1, "%s gave %" PRIu32, call, number);
 }
 
-/* Hears what has come, but not for ever where frames come without end. */
+/* Hears what has come, but not for ever where frames come without end: the ring waits for a station that does not
+ * answer, so that what it missed is some two rounds at most. */
 static void hear_all(void)
 {
     static uint8_t heard[HEADER + RTEP_PACKET_MOST + 1];
-    for (int i = 0; i < 1024; i++) {
+    for (int i = 0; i < 4 * RTEP_MEMBERS; i++) {
         struct sockaddr_ll from;
         socklen_t from_len = sizeof from;
         ssize_t got = recvfrom(card, heard, sizeof heard, MSG_DONTWAIT, (struct sockaddr *)&from, &from_len);
