@@ -251,7 +251,8 @@ static bool queue_line(const char *text)
                                  (const uint8_t *)rest, strlen(rest));
     if (number == RTEP_SEND_LIST_FULL) return false;
     if (number == RTEP_BUFFER || number == RTEP_NOT_WHOLE) fail(1, "queue gave %" PRIu32, number);
-    if (number != RTEP_DONE) fprintf(stderr, "station: notice refused (%" PRIu32 "), %s: %.60s\n", number, reason(number), text);
+    if (number != RTEP_DONE)
+        fprintf(stderr, "station: notice refused (%" PRIu32 "), %s: %.60s\n", number, reason(number), text);
     return true;
 }
 
@@ -372,7 +373,8 @@ int main(int count, char **arguments)
         bool lines = wait_for(waiting ? deadline : -1, input_open && room, &open_signals);
         hear_all(); /* first: an acknowledgement that came in time counts, however late this process runs */
         if (record[RTEP_AT_STATE] == RTEP_WAITING && now() >= deadline)
-            done_or_dropped("timer", rtep_timer(record, sizeof record, store, sizeof store, out + HEADER, RTEP_OUT, told));
+            done_or_dropped("timer",
+                            rtep_timer(record, sizeof record, store, sizeof store, out + HEADER, RTEP_OUT, told));
         if (lines) read_input();
     }
     return 0;

@@ -127,7 +127,7 @@ int main(int argc, char **argv)
                 if (j == i || (not_addressee && memcmp(addresses[j], frame, 6) == 0) ||
                     (acknowledges && memcmp(addresses[j], waiting, 6) == 0))
                     continue;
-                if (send(polls[j].fd, frame, (size_t)got, 0) < 0 && errno != ENETDOWN && errno != ENXIO && errno != ENOBUFS)
+                if (send(polls[j].fd, frame, (size_t)got, 0) < 0 && errno != ENOBUFS)
                     fail("send");
             }
         }
