@@ -5,7 +5,3 @@ pub mod Rows
 pub mod Runs
 pub mod Text
 pub mod Running
-pub mod Lines
-pub mod Script
-pub mod Session
-pub mod Reading

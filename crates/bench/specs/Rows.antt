@@ -1,8 +1,8 @@
 -- What is told of a frame: "number, kind (T, G for transmit token, I), sender, addressee, priority, octets on the wire".
 use mathlib.Core.List.{List, [], _∷_}
 use Prim.Native.Nat.{ℕ, _+_}
-use Rattle.codec.specs.Packet.{token, transmit, information, wireOctets}
-use Rattle.codec.specs.declared.packet.Packet.{Packet}
+use Rattle.packet_codec.specs.Packet.{token, transmit, information, wireOctets}
+use Rattle.packet_codec.specs.declared.packet.Packet.{Packet}
 use Rattle.parts.specs.Frames.{numberOf}
 use Rattle.parts.specs.declared.frame.Whom.{Whom}
 use Rattle.parts.specs.declared.frame.Whom.the-variants.{Nobody, Member}

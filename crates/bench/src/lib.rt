@@ -1,10 +1,7 @@
-// The bench: a whole ring of stations on a perfect wire, its script, and what it prints.
+// The bench: a whole ring of stations on a perfect wire, and what is printed of its frames.
 pub mod calls;
 pub mod delivery;
-pub mod lines;
-pub mod reading;
 pub mod ring;
 pub mod rows;
 pub mod running;
-pub mod session;
 pub mod text;

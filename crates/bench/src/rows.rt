@@ -1,7 +1,7 @@
 // What is told of a frame.
 ghost use mathlib.Core.Path.{_≡_};
 ghost use Rattle.bench.specs.Rows.{kindOf, priorityIn, addressOf, addressOrNone, packetOf, octetsOf, rowOf};
-use codec::packet::Packet;
+use packet_codec::packet::Packet;
 use parts::frame::Frame;
 use parts::frame::Whom;
 

@@ -1,7 +1,7 @@
 // Packets, read and written against a ring of the members 2, 4 and 6.
 use crate::show;
-use codec::packet::Packet;
-use codec::reading::Read;
+use packet_codec::packet::Packet;
+use packet_codec::reading::Read;
 
 const RING: [u64; 3] = [2, 4, 6];
 
@@ -113,7 +113,10 @@ fn number_of(r: Read) -> u32 {
 }
 
 fn read(text: &[u8], packet: &[u8]) {
-    show::answer(text, number_of(codec::reading::read_packet(&RING, packet)));
+    show::answer(
+        text,
+        number_of(packet_codec::reading::read_packet(&RING, packet)),
+    );
 }
 
 fn read_short(text: &[u8], packet: &[u8; 46]) {
@@ -196,13 +199,16 @@ fn write(text: &[u8], p: Packet, information: &[u8]) {
     let mut out = [0u8; 1500];
     show::answer(
         text,
-        codec::writing::write_packet(&RING, p, information, &mut out),
+        packet_codec::writing::write_packet(&RING, p, information, &mut out),
     );
 }
 
 fn write_short(text: &[u8], p: Packet) {
     let mut out = [0u8; 1499];
-    show::answer(text, codec::writing::write_packet(&RING, p, b"", &mut out));
+    show::answer(
+        text,
+        packet_codec::writing::write_packet(&RING, p, b"", &mut out),
+    );
 }
 
 pub fn all_written() {

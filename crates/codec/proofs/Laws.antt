@@ -5,6 +5,3 @@ pub mod Zeros
 pub mod Bits
 pub mod Position
 pub mod Ring
-pub mod Packet
-pub mod Looked
-pub mod Written

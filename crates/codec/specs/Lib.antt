@@ -2,4 +2,3 @@ pub mod Order
 pub mod Octets
 pub mod Bits
 pub mod Ring
-pub mod Packet

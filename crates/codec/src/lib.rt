@@ -1,8 +1,4 @@
-// The codec of RT-EP: numbers in octets and bits, the ring file, and packets.
+// The foot of the codec: numbers in octets and bits, and the ring file.
 pub mod bits;
-pub mod fields;
 pub mod octets;
-pub mod packet;
-pub mod reading;
 pub mod ring;
-pub mod writing;

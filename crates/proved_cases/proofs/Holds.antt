@@ -19,8 +19,8 @@ use Rattle.bench.specs.Delivery.{handed, delivered, replyOf, deliver, stepOn, s
 use Rattle.bench.specs.Rows.{rowOf, rowOn}
 use Rattle.bench.specs.Runs.{afterEvent, composed, final, frames, stepping}
 use Rattle.bench.specs.Text.{width, decimal, cell, frontText, endsText, backText, rowText, rowsText, answerText}
-use Rattle.bench.specs.Lines.{words, valueFrom, isNumber, same, shaped, lineOfWords, lineOf, linesOf}
-use Rattle.bench.specs.Script.{opens, does, prints, printed, output}
+use Rattle.script.specs.Lines.{words, valueFrom, isNumber, same, shaped, lineOfWords, lineOf, linesOf}
+use Rattle.script.specs.Script.{opens, does, prints, printed, output}
 use Rattle.waiting.specs.Waiting.{own, before, shorts, octetsOnWire}
 use Rattle.proved_cases.specs.Cases.{Case, cases}
 

@@ -7,7 +7,7 @@ use mathlib.Core.List.{List, [], _∷_, _++_}
 use lib.ListN.{length, take, replicate}
 use Rattle.codec.specs.declared.ring.Ring.{Ring}
 use Rattle.codec.specs.Ring.{ringFile, readRing}
-use Rattle.codec.specs.Packet.{information, wireOctets}
+use Rattle.packet_codec.specs.Packet.{information, wireOctets}
 use Rattle.parts.specs.declared.frame.Whom.the-variants.{Nobody}
 use Rattle.parts.specs.declared.frame.Frame.the-variants.{Token}
 use Rattle.parts.specs.declared.frame.Dispatch.the-variants.{Sent}
@@ -15,7 +15,7 @@ use Rattle.station.specs.Heard.{acknowledges}
 use Rattle.bench.specs.Calls.{queue}
 use Rattle.bench.specs.Runs.{queued, stepping}
 use Rattle.bench.specs.Text.{lineFeed}
-use Rattle.bench.specs.Script.{output}
+use Rattle.script.specs.Script.{output}
 use Rattle.waiting.specs.Waiting.{spotFor, before, shorts, octetsOnWire, atQueue}
 
 pub record Case : Type 0 where

@@ -8,14 +8,14 @@ use lib.ListN.{length, take, getD}
 use Rattle.codec.specs.Order.{firstOf}
 use Rattle.codec.specs.Octets.{laid}
 use Rattle.codec.specs.Ring.{readRing}
-use Rattle.codec.specs.Packet.{size, wireOctets, packetOctets, writeRefusal, kept}
+use Rattle.packet_codec.specs.Packet.{size, wireOctets, packetOctets, writeRefusal, kept}
 use Rattle.codec.specs.declared.ring.Ring.{Ring}
-use Rattle.codec.specs.declared.packet.Short.{Short}
-use Rattle.codec.specs.declared.packet.Head.{Head}
-use Rattle.codec.specs.declared.packet.Packet.{Packet}
-use Rattle.codec.specs.declared.packet.Packet.the-variants.{Token, Transmit, Information}
-use Rattle.codec.specs.declared.reading.Read.{Read}
-use Rattle.codec.specs.declared.reading.Read.the-variants.{Refused, Good}
+use Rattle.packet_codec.specs.declared.packet.Short.{Short}
+use Rattle.packet_codec.specs.declared.packet.Head.{Head}
+use Rattle.packet_codec.specs.declared.packet.Packet.{Packet}
+use Rattle.packet_codec.specs.declared.packet.Packet.the-variants.{Token, Transmit, Information}
+use Rattle.packet_codec.specs.declared.reading.Read.{Read}
+use Rattle.packet_codec.specs.declared.reading.Read.the-variants.{Refused, Good}
 use Rattle.rtep.specs.declared.Made.{Made}
 use Rattle.rtep.specs.declared.Made.the-variants.{Nothing, Packet as Of}
 

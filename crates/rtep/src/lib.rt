@@ -4,16 +4,16 @@ ghost use mathlib.Core.List.{List, [], _∷_, _++_};
 ghost use Prim.Native.Nat.{_+_, _≤_, _<_};
 ghost use lib.ListN.{length, take};
 ghost use Rattle.codec.specs.Octets.{laid};
-ghost use Rattle.codec.specs.Packet.{readPacket};
+ghost use Rattle.packet_codec.specs.Packet.{readPacket};
 ghost use Rattle.rtep.specs.declared.Made.the-variants.{Nothing, Packet as Of};
 ghost use Rattle.rtep.specs.Told.{toldRing, RingTold, valuesOf, shortValues, headValues, readNumber, readTold, shortMade, headMade, madeOf, madeRefusal, WriteTold};
-use codec::packet::Head;
-use codec::packet::Packet;
-use codec::packet::Short;
-use codec::reading::Read;
-use codec::reading::read_packet;
 use codec::ring::Ring;
-use codec::writing::write_packet;
+use packet_codec::packet::Head;
+use packet_codec::packet::Packet;
+use packet_codec::packet::Short;
+use packet_codec::reading::Read;
+use packet_codec::reading::read_packet;
+use packet_codec::writing::write_packet;
 
 pub mod driver;
 

@@ -1,12 +1,12 @@
 // Reads a script from standard input and prints what a ring does, frame by frame.
 ghost use Prim.Native.Nat.{_≤_};
 ghost use lib.ListN.{length};
-use bench::lines::Line;
-use bench::reading::Held;
-use bench::session::Acted;
-use bench::session::Session;
 use libc::STDIN_FILENO;
 use libc::STDOUT_FILENO;
+use script::lines::Line;
+use script::reading::Held;
+use script::session::Acted;
+use script::session::Session;
 
 // The session, the end of what is to be written, and the line that is being read.
 struct State {
@@ -35,7 +35,7 @@ fn flush(out: &[u8], used: usize) {
 
 // Room for a line; what stands in the buffer is written out where it has less.
 fn make_room(out: &[u8], used: usize) -> usize {
-    if bench::session::ROOM <= bench::running::room_from(out, used) {
+    if script::session::ROOM <= bench::running::room_from(out, used) {
         return used;
     }
     flush(out, used);
@@ -65,7 +65,7 @@ fn take_in(b: State, block: &[u8], out: &mut [u8]) -> State
     let n = block.len();
     let mut i: usize = 0;
     while i < n {
-        let f = bench::reading::feed(held, block, i);
+        let f = script::reading::feed(held, block, i);
         i = f.next;
         held = f.held;
         if !f.whole {
@@ -74,8 +74,8 @@ fn take_in(b: State, block: &[u8], out: &mut [u8]) -> State
         let l = held.line();
         held = Held::none();
         used = make_room(&*out, used);
-        if bench::session::is_refused(session.begun, l) {
-            used = bench::session::refuse(&mut *out, used);
+        if script::session::is_refused(session.begun, l) {
+            used = script::session::refuse(&mut *out, used);
             continue;
         }
         let a = carry_out(session, l, &mut *out, used);

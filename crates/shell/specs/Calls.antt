@@ -9,9 +9,9 @@ use lib.ListN.{length, take, drop}
 use Rattle.codec.specs.Order.{firstOf}
 use Rattle.codec.specs.Octets.{laid}
 use Rattle.codec.specs.Ring.{position, isMember, readRing}
-use Rattle.codec.specs.Packet.{readPacket, kept}
-use Rattle.codec.specs.declared.reading.Read.{Read}
-use Rattle.codec.specs.declared.reading.Read.the-variants.{Refused, Good}
+use Rattle.packet_codec.specs.Packet.{readPacket, kept}
+use Rattle.packet_codec.specs.declared.reading.Read.{Read}
+use Rattle.packet_codec.specs.declared.reading.Read.the-variants.{Refused, Good}
 use Rattle.codec.specs.declared.ring.Ring.{Ring}
 use Rattle.parts.specs.Choose.{pick}
 use Rattle.station.specs.Stations.{made, answered, moved, unless}

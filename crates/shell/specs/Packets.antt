@@ -4,9 +4,9 @@ use mathlib.Core.List.{List, [], _∷_}
 use lib.Dec.{eqb}
 use lib.ListN.{getD}
 use Rattle.codec.specs.Ring.{position}
-use Rattle.codec.specs.Packet.{token, transmit, information, size, packetOctets}
-use Rattle.codec.specs.declared.packet.Packet.{Packet}
-use Rattle.codec.specs.declared.packet.Packet.the-variants.{Token as TokenOf, Transmit as TransmitOf, Information as InformationOf}
+use Rattle.packet_codec.specs.Packet.{token, transmit, information, size, packetOctets}
+use Rattle.packet_codec.specs.declared.packet.Packet.{Packet}
+use Rattle.packet_codec.specs.declared.packet.Packet.the-variants.{Token as TokenOf, Transmit as TransmitOf, Information as InformationOf}
 use Rattle.parts.specs.Choose.{pick}
 use Rattle.parts.specs.declared.frame.Whom.{Whom}
 use Rattle.parts.specs.declared.frame.Whom.the-variants.{Nobody, Member}

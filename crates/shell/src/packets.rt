@@ -4,9 +4,9 @@ ghost use Prim.Native.Nat.{_+_, _≤_};
 ghost use lib.ListN.{length};
 ghost use Rattle.codec.specs.Octets.{laid};
 ghost use Rattle.codec.specs.Ring.{position};
-ghost use Rattle.codec.specs.Packet.{packetOctets};
+ghost use Rattle.packet_codec.specs.Packet.{packetOctets};
 ghost use mathlib.Core.List.{[]};
-ghost use Rattle.codec.specs.declared.packet.Packet.the-variants.{Token as TokenOf, Transmit as TransmitOf, Information as InformationOf};
+ghost use Rattle.packet_codec.specs.declared.packet.Packet.the-variants.{Token as TokenOf, Transmit as TransmitOf, Information as InformationOf};
 ghost use Rattle.shell.specs.Packets.{
   addressOf,
   whomAddress,
@@ -17,11 +17,11 @@ ghost use Rattle.shell.specs.Packets.{
   sentSize,
   sentTo,
 };
-use codec::packet::Head;
-use codec::packet::Packet;
-use codec::packet::Short;
-use codec::writing::lay_information;
-use codec::writing::lay_short;
+use packet_codec::packet::Head;
+use packet_codec::packet::Packet;
+use packet_codec::packet::Short;
+use packet_codec::writing::lay_information;
+use packet_codec::writing::lay_short;
 use parts::frame::Dispatch;
 use parts::frame::Frame;
 use parts::frame::Whom;

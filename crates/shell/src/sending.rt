@@ -10,8 +10,8 @@ ghost use Rattle.shell.specs.Calls.{badBuffers, recordWith, Starting, Ti
 use crate::packets::compose;
 use crate::places::information_of;
 use crate::telling::tell;
-use codec::packet::Packet;
 use codec::ring::members;
+use packet_codec::packet::Packet;
 use records::layout::STORE;
 use records::record::load;
 use records::record::save;

@@ -1,7 +1,7 @@
 -- `rtep_read` meets its contract: each arm's constructor says the number and what is told.
 use mathlib.Core.Path.{_≡_, refl, sym, ap, _∙_}
-use Rattle.codec.specs.declared.reading.Read.the-variants.{Refused, Good}
-use Rattle.codec.specs.Packet.{readPacket}
+use Rattle.packet_codec.specs.declared.reading.Read.the-variants.{Refused, Good}
+use Rattle.packet_codec.specs.Packet.{readPacket}
 use borrow.Author.Needs.{needs}
 use Rattle.rtep.proofs.rtep_read.Statement.{statement}
 use Rattle.rtep.proofs.rtep_read.Tie as tie

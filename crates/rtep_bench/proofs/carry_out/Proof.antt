@@ -4,7 +4,7 @@ use Prim.Native.Nat.{_-_}
 use native.Mathlib.Omega.{arith}
 use lib.ListN.{length}
 use borrow.Author.Needs.{needs}
-use Rattle.bench.proofs.Theorems.InParts.{left-falls}
+use Rattle.script.proofs.Theorems.InParts.{left-falls}
 use Rattle.rtep_bench.proofs.carry_out.Statement.{statement}
 use Rattle.rtep_bench.proofs.carry_out.Tie as tie
 

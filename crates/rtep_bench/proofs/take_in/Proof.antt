@@ -4,7 +4,7 @@ use Prim.Native.Nat.{_-_}
 use native.Mathlib.Omega.{arith}
 use lib.ListN.{length}
 use borrow.Author.Needs.{needs}
-use Rattle.bench.proofs.Laws.Reading.{feed-further}
+use Rattle.script.proofs.Laws.Reading.{feed-further}
 use Rattle.rtep_bench.proofs.take_in.Statement.{statement}
 use Rattle.rtep_bench.proofs.take_in.Tie as tie
 

@@ -8,7 +8,7 @@ use native.Mathlib.Omega.{arith}
 use borrow.Author.Tests.{ne-eqb, eqb-true, ltb-false, not-true, not-false}
 use lib.ListN.{length, take, drop, length-take, length-append}
 use Rattle.codec.specs.Octets.{laid, zeros}
-use Rattle.codec.specs.Packet.{kept}
+use Rattle.packet_codec.specs.Packet.{kept}
 use Rattle.codec.specs.Ring.{count, addressesOf, ringOf, readRing}
 use Rattle.codec.specs.declared.ring.RingRead.{RingRead}
 use Rattle.codec.proofs.Laws.Octets.{length-zeros}

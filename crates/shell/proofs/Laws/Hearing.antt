@@ -9,10 +9,10 @@ use borrow.Author.Tests.{le-leb, lt-leb}
 use lib.ListN.{length, take, drop}
 use Rattle.codec.specs.Octets.{laid}
 use Rattle.codec.specs.Ring.{position}
-use Rattle.codec.specs.Packet.{readPacket}
-use Rattle.codec.specs.declared.packet.Packet.{Packet}
-use Rattle.codec.specs.declared.reading.Read.{Read}
-use Rattle.codec.specs.declared.reading.Read.the-variants.{Refused, Good}
+use Rattle.packet_codec.specs.Packet.{readPacket}
+use Rattle.packet_codec.specs.declared.packet.Packet.{Packet}
+use Rattle.packet_codec.specs.declared.reading.Read.{Read}
+use Rattle.packet_codec.specs.declared.reading.Read.the-variants.{Refused, Good}
 use Rattle.parts.specs.Moves.{moveOf, runs}
 use Rattle.station.specs.Stations.{stateOf, answered}
 use Rattle.station.specs.Heard.{checks, frameRule}

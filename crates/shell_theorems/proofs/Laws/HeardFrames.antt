@@ -9,15 +9,15 @@ use lib.ListN.{length}
 use borrow.Author.Tests.{ltb-true, ltb-false, lt-leb, lt-ltb, le-leb, le-ltb, not-false}
 use Rattle.codec.specs.Octets.{Octets}
 use Rattle.codec.specs.Ring.{position, isMember}
-use Rattle.codec.specs.Packet.{belongs, failingBad, fieldTests, writeTests, lengthTests, informationLength, informationPart, lengthFrom, Fit, readPacket}
-use Rattle.codec.specs.declared.packet.Packet.{Packet}
-use Rattle.codec.specs.declared.packet.Packet.the-variants.{Token as TokenOf, Transmit as TransmitOf, Information as InformationOf}
-use Rattle.codec.specs.declared.fields.Looked.the-variants.{Sound}
-use Rattle.codec.specs.declared.reading.Read.the-variants.{Good}
+use Rattle.packet_codec.specs.Packet.{belongs, failingBad, fieldTests, writeTests, lengthTests, informationLength, informationPart, lengthFrom, Fit, readPacket}
+use Rattle.packet_codec.specs.declared.packet.Packet.{Packet}
+use Rattle.packet_codec.specs.declared.packet.Packet.the-variants.{Token as TokenOf, Transmit as TransmitOf, Information as InformationOf}
+use Rattle.packet_codec.specs.declared.fields.Looked.the-variants.{Sound}
+use Rattle.packet_codec.specs.declared.reading.Read.the-variants.{Good}
 use Rattle.codec.proofs.Laws.Order.{NoneHolds, none-holds, none-split}
-use Rattle.codec.proofs.Laws.Packet.{write-apart}
-use Rattle.codec.proofs.Theorems.ReadWrite.{TypedPacket}
-use Rattle.codec.proofs.Theorems.WriteRead.{write-after-read}
+use Rattle.packet_codec.proofs.Laws.Packet.{write-apart}
+use Rattle.packet_codec.proofs.Theorems.ReadWrite.{TypedPacket}
+use Rattle.packet_codec.proofs.Theorems.WriteRead.{write-after-read}
 use Rattle.parts.specs.Choose.{pick}
 use Rattle.parts.specs.Frames.{fit, memberOrNobody}
 use Rattle.parts.specs.declared.frame.Whom.the-variants.{Nobody, Member}

@@ -7,11 +7,11 @@ use native.Mathlib.Omega.{arith}
 use lib.Dec.{ltb, leb, eqb}
 use lib.ListN.{length}
 use Rattle.codec.specs.Order.{firstOf}
-use Rattle.codec.specs.Packet.{readPacket, packetOf, identifier, readTests, isBad}
+use Rattle.packet_codec.specs.Packet.{readPacket, packetOf, identifier, readTests, isBad}
 use Rattle.codec.specs.Ring.{position}
-use Rattle.codec.specs.declared.fields.Looked.the-variants.{Sound}
-use Rattle.codec.specs.declared.reading.Read.{Read}
-use Rattle.codec.specs.declared.reading.Read.the-variants.{Refused, Good}
+use Rattle.packet_codec.specs.declared.fields.Looked.the-variants.{Sound}
+use Rattle.packet_codec.specs.declared.reading.Read.{Read}
+use Rattle.packet_codec.specs.declared.reading.Read.the-variants.{Refused, Good}
 use Rattle.codec.proofs.Laws.Order.{Apart}
 use Rattle.parts.specs.Moves.{on, runs, moveOf}
 use Rattle.parts.specs.declared.moves.State.{State}

@@ -1,6 +1,6 @@
 -- `packets::lay` meets its contract: each arm's constructor says which octets they are.
 use mathlib.Core.Path.{_≡_, refl, sym, ap, _∙_}
-use Rattle.codec.specs.Packet.{packetOctets}
+use Rattle.packet_codec.specs.Packet.{packetOctets}
 use borrow.Author.Needs.{needs}
 use Rattle.shell.proofs.packets.lay.Statement.{statement}
 use Rattle.shell.proofs.packets.lay.Tie as tie

@@ -1,0 +1,106 @@
+-- Laws of a packet's checks. Assumes nothing.
+use mathlib.Core.Path.{_≡_, refl, sym, ap, _∙_}
+use mathlib.Core.Bool.{Bool, true, false, cond, not, false≢true}
+use mathlib.Core.List.{List, [], _∷_, _++_}
+use Prim.Native.Nat.{ℕ, zero, suc, _+_, _-_, _<_, _≤_, zero-le}
+use native.Mathlib.Nat.{add-zero, add-suc, suc-add}
+use native.Mathlib.Omega.{arith}
+use borrow.Author.Tests.{lt-ltb, le-ltb, ltb-false, eqb-true, not-false}
+use lib.Dec.{ltb, eqb}
+use lib.ListN.{length, take, drop, getD, getD-replicate}
+use lib.Seq.{ext-getD, getD-take, getD-drop}
+use Rattle.codec.specs.Order.{firstOf}
+use Rattle.codec.specs.Octets.{firstNonzero, zeros}
+use Rattle.packet_codec.specs.declared.fields.Looked.{Looked}
+use Rattle.packet_codec.specs.declared.fields.Looked.the-variants.{Sound, Bad}
+use Rattle.packet_codec.specs.declared.packet.Packet.{Packet}
+use Rattle.packet_codec.specs.declared.packet.Packet.the-variants.{Token, Transmit, Information}
+use Rattle.packet_codec.specs.Packet.{fieldTests, padTests, lengthTests, restTests, readTests, writeTests, informationLength, padFrom, lengthFrom, size, isBad, writeRefusal}
+use Rattle.codec.proofs.Laws.Octets.{length-part, length-zeros}
+use Rattle.codec.proofs.Laws.Order.{Apart, NoneHolds, first-append, none-holds, first-none, first-some, apart-append}
+
+-- ---- one list of tests after another
+
+pub bad-not-sound : (k : ℕ) → Bad k ≡ Sound → ⊥
+bad-not-sound k e = let z : _≡_ {A = ℕ} 0 1 = cc in omega arith
+
+pub looked-bad : (ts us : List (Bool × Looked)) (k : ℕ) → firstOf Sound ts ≡ Bad k → firstOf Sound (ts ++ us) ≡ Bad k
+looked-bad ts us k e = first-append Sound ts us ∙ first-some Sound (firstOf Sound us) ts (λ s. bad-not-sound k (sym e ∙ s)) ∙ e
+
+pub looked-sound : (ts us : List (Bool × Looked)) → Apart Sound ts → firstOf Sound ts ≡ Sound → firstOf Sound (ts ++ us) ≡ firstOf Sound us
+looked-sound ts us a e = first-append Sound ts us ∙ first-none Sound (firstOf Sound us) ts a e
+
+pub fields-apart : (ring : List ℕ) (p : Packet) → Apart Sound (fieldTests ring p)
+fields-apart ring (Token p) = (bad-not-sound 4, (bad-not-sound 10, (bad-not-sound 16, tt)))
+fields-apart ring (Transmit p) = (bad-not-sound 1, (bad-not-sound 4, (bad-not-sound 10, (bad-not-sound 16, tt))))
+fields-apart ring (Information h) = (bad-not-sound 1, (bad-not-sound 4, (bad-not-sound 6, tt)))
+
+pub pads-apart : (s : List ℕ) (from k : ℕ) → Apart Sound (padTests s from k)
+unfolding padTests
+pads-apart s from zero = tt
+pads-apart s from (suc k) = (bad-not-sound from, pads-apart s (suc from) k)
+
+-- ---- the pad
+
+-- the first bad pad octet is the first that is not zero
+pub pad-looked : (s : List ℕ) (from k : ℕ) → firstOf Sound (padTests s from k) ≡ cond (ltb (firstNonzero s from k) (from + k)) (Bad (firstNonzero s from k)) Sound
+unfolding padTests
+pad-looked s from zero = rw (add-zero from, le-ltb from from (omega arith))
+pad-looked s from (suc k) = go (eqb (getD s from 0) 0) (pad-looked s (suc from) k)
+  where
+    go : (b : Bool) → firstOf Sound (padTests s (suc from) k) ≡ cond (ltb (firstNonzero s (suc from) k) (suc from + k)) (Bad (firstNonzero s (suc from) k)) Sound
+        → cond (not b) (Bad from) (firstOf Sound (padTests s (suc from) k))
+        ≡ cond (ltb (cond b (firstNonzero s (suc from) k) from) (from + suc k)) (Bad (cond b (firstNonzero s (suc from) k) from)) Sound
+    go true e = e ∙ rw (suc-add from k, add-suc from k)
+    go false e = rw (lt-ltb from (from + suc k) (omega arith))
+
+-- ---- what is fit to write
+
+pub fit-length : (ring : List ℕ) (p : Packet) (n : ℕ) → firstOf Sound (writeTests ring p n) ≡ Sound → (n ≡ informationLength p) × (informationLength p ≤ 1492)
+fit-length ring (Token p) n e =
+    let h = none-holds Sound (writeTests ring (Token p) n) (bad-not-sound 4, (bad-not-sound 10, (bad-not-sound 16, (bad-not-sound 0, tt)))) e in
+    (eqb-true _ _ (not-false _ (h .1 .1 .1 .0)), zero-le)
+fit-length ring (Transmit p) n e =
+    let h = none-holds Sound (writeTests ring (Transmit p) n) (bad-not-sound 1, (bad-not-sound 4, (bad-not-sound 10, (bad-not-sound 16, (bad-not-sound 0, tt))))) e in
+    (eqb-true _ _ (not-false _ (h .1 .1 .1 .1 .0)), zero-le)
+fit-length ring (Information p) n e =
+    let h = none-holds Sound (writeTests ring (Information p) n) (bad-not-sound 1, (bad-not-sound 4, (bad-not-sound 6, (bad-not-sound 6, tt)))) e in
+    (eqb-true _ _ (not-false _ (h .1 .1 .1 .0)), ltb-false _ _ (h .1 .1 .0))
+
+pub sound-of : (l : Looked) → isBad l ≡ false → l ≡ Sound
+sound-of Sound e = refl
+sound-of (Bad k) e = absurd (false≢true (sym e))
+
+pub write-apart : (ring : List ℕ) (p : Packet) (n : ℕ) → Apart Sound (writeTests ring p n)
+write-apart ring p n = apart-append Sound (fieldTests ring p) (lengthTests n (informationLength p) (lengthFrom p)) (fields-apart ring p) (bad-not-sound (lengthFrom p), tt)
+
+pub rest-apart : (s : List ℕ) (p : Packet) → Apart Sound (restTests s p)
+rest-apart s p =
+    apart-append Sound (padTests s (padFrom p) (46 - padFrom p)) (lengthTests (length s) (size p) (lengthFrom p)) (pads-apart s (padFrom p) (46 - padFrom p)) (bad-not-sound (lengthFrom p), tt)
+
+pub read-apart : (ring s : List ℕ) (p : Packet) → Apart Sound (readTests ring s p)
+read-apart ring s p = apart-append Sound (fieldTests ring p) (restTests s p) (fields-apart ring p) (rest-apart s p)
+
+-- ---- a pad is good exactly where it is zeros
+
+pub pads-none : (s : List ℕ) (from k : ℕ) → ((i : ℕ) → getD s (from + i) 0 ≡ 0) → NoneHolds (padTests s from k)
+unfolding padTests
+pads-none s from zero z = tt
+pads-none s from (suc k) z =
+    let here : getD s from 0 ≡ 0 = ap (λ (j : ℕ). getD s j 0) (sym (add-zero from)) ∙ z 0 in
+    let later : (i : ℕ) → getD s (suc from + i) 0 ≡ 0 = λ i. ap (λ (j : ℕ). getD s j 0) (suc-add from i ∙ sym (add-suc from i)) ∙ z (suc i) in
+    (rw here, pads-none s (suc from) k later)
+
+pub pads-zero : (s : List ℕ) (from k : ℕ) → NoneHolds (padTests s from k) → (i : ℕ) → i < k → getD s (from + i) 0 ≡ 0
+unfolding padTests
+pads-zero s from zero n i h = absurd (omega arith)
+pads-zero s from (suc k) n zero h = ap (λ (j : ℕ). getD s j 0) (add-zero from) ∙ eqb-true _ _ (not-false _ (n .0))
+pads-zero s from (suc k) n (suc i) h = ap (λ (j : ℕ). getD s j 0) (add-suc from i ∙ sym (suc-add from i)) ∙ pads-zero s (suc from) k (n .1) i (omega arith)
+
+-- so the part is zeros
+pub pad-is : (s : List ℕ) (from k : ℕ) → from + k ≤ length s → NoneHolds (padTests s from k) → take k (drop from s) ≡ zeros k
+pad-is s from k h n =
+    ext-getD 0 (take k (drop from s)) (zeros k) (length-part s from k h ∙ sym (length-zeros k))
+    (λ i hi.
+    let b : i < k = rw (length-part s from k h) at hi in
+    getD-take k (drop from s) i 0 b ∙ getD-drop from s i 0 ∙ pads-zero s from k n i b ∙ sym (getD-replicate k i 0 0 b))

@@ -1,0 +1,3 @@
+-- Reading undoes writing, and writing undoes reading.
+pub mod ReadWrite
+pub mod WriteRead

@@ -1,0 +1,184 @@
+-- The packet: its fields and their places, its checks in their order, and what reading and writing give.
+use Prim.Native.Nat.{ℕ, zero, suc, _+_, _-_, _^_, max}
+use mathlib.Core.Path.{_≡_}
+use mathlib.Core.Bool.{Bool, true, false, cond, not, _&&_}
+use mathlib.Core.List.{List, [], _∷_, _++_}
+use lib.Dec.{ltb, leb, eqb}
+use lib.ListN.{length, take, drop, getD}
+use Rattle.codec.specs.Order.{firstOf}
+use Rattle.codec.specs.Octets.{octets, numberAt, laid, zeros}
+use Rattle.codec.specs.Ring.{isMember}
+use Rattle.packet_codec.specs.declared.packet.Short.{Short}
+use Rattle.packet_codec.specs.declared.packet.Head.{Head}
+use Rattle.packet_codec.specs.declared.packet.Packet.{Packet}
+use Rattle.packet_codec.specs.declared.packet.Packet.the-variants.{Token, Transmit, Information}
+use Rattle.packet_codec.specs.declared.fields.Looked.{Looked}
+use Rattle.packet_codec.specs.declared.fields.Looked.the-variants.{Sound, Bad}
+use Rattle.packet_codec.specs.declared.reading.Read.{Read}
+use Rattle.packet_codec.specs.declared.reading.Read.the-variants.{Refused, Good}
+
+-- ---- constructors
+
+abbrev pub token : ℕ → ℕ → ℕ → ℕ → ℕ → Packet
+token priority number master failing named = Token (record { priority = priority; number = number; master = master; failing = failing; named = named })
+
+-- a transmit token's failing station is always zero
+abbrev pub transmit : ℕ → ℕ → ℕ → ℕ → Packet
+transmit priority number master named = Transmit (record { priority = priority; number = number; master = master; failing = 0; named = named })
+
+abbrev pub information : ℕ → ℕ → ℕ → ℕ → Packet
+information priority number channel length = Information (record { priority = priority; number = number; channel = channel; length = length })
+
+-- ---- sizes
+
+abbrev pub informationLength : Packet → ℕ
+informationLength (Token p) = 0
+informationLength (Transmit p) = 0
+informationLength (Information h) = h .length
+
+-- where the zeros begin that go up to 46
+abbrev pub padFrom : Packet → ℕ
+padFrom (Token p) = 22
+padFrom (Transmit p) = 22
+padFrom (Information h) = 8 + h .length
+
+abbrev pub size : Packet → ℕ
+size p = max 46 (padFrom p)
+
+-- octets on the wire
+abbrev pub wireOctets : Packet → ℕ
+wireOctets (Token p) = 72
+wireOctets (Transmit p) = 72
+wireOctets (Information h) = max 72 (34 + h .length)
+
+-- the information is that part of the packet's octets
+unfoldable pub informationPart : Packet → List ℕ → List ℕ
+informationPart p s = cond (leb (8 + informationLength p) (length s)) (take (informationLength p) (drop 8 s)) []
+
+-- ---- the octets, in wire order
+
+abbrev pub startOctets : ℕ → ℕ → ℕ → List ℕ
+startOctets identifier priority number = octets 1 identifier ++ (octets 1 priority ++ octets 2 number)
+
+abbrev pub addressesOctets : ℕ → ℕ → ℕ → List ℕ
+addressesOctets master failing named = octets 6 master ++ (octets 6 failing ++ octets 6 named)
+
+abbrev pub shortOctets : ℕ → Short → List ℕ
+shortOctets identifier p = startOctets identifier (p .priority) (p .number) ++ (addressesOctets (p .master) (p .failing) (p .named) ++ zeros 24)
+
+abbrev pub headOctets : Head → List ℕ
+headOctets h = startOctets 3 (h .priority) (h .number) ++ (octets 2 (h .channel) ++ octets 2 (h .length))
+
+abbrev pub informationOctets : Head → List ℕ → List ℕ
+informationOctets h info = headOctets h ++ (info ++ zeros (46 - (8 + length info)))
+
+unfoldable pub packetOctets : Packet → List ℕ → List ℕ
+packetOctets (Token p) info = shortOctets 1 p
+packetOctets (Transmit p) info = shortOctets 2 p
+packetOctets (Information h) info = informationOctets h info
+
+-- ---- the fields of octets
+
+abbrev pub shortOf : List ℕ → Short
+shortOf s = record { priority = getD s 1 0; number = numberAt s 2 2; master = numberAt s 4 6; failing = numberAt s 10 6; named = numberAt s 16 6 }
+
+abbrev pub headOf : List ℕ → Head
+headOf s = record { priority = getD s 1 0; number = numberAt s 2 2; channel = numberAt s 4 2; length = numberAt s 6 2 }
+
+abbrev pub identifier : List ℕ → ℕ
+identifier s = getD s 0 0
+
+unfoldable pub packetOf : List ℕ → Packet
+packetOf s = cond (eqb (identifier s) 1) (Token (shortOf s)) (cond (eqb (identifier s) 2) (Transmit (shortOf s)) (Information (headOf s)))
+
+-- ---- the checks behind 12: fields in wire order, then padding, then length, each with its place
+
+-- an address of 48 bits that is a member's
+unfoldable pub belongs : List ℕ → ℕ → Bool
+belongs ring a = cond (ltb a (2 ^ 48)) (isMember ring a) false
+
+-- a failing station of zero means none
+unfoldable pub failingBad : List ℕ → ℕ → Bool
+failingBad ring failing = cond (eqb failing 0) false (not (belongs ring failing))
+
+abbrev pub fieldTests : List ℕ → Packet → List (Bool × Looked)
+fieldTests ring (Token p) =
+    (not (belongs ring (p .master)), Bad 4)
+    ∷ (failingBad ring (p .failing), Bad 10)
+    ∷ (not (belongs ring (p .named)), Bad 16)
+    ∷ []
+fieldTests ring (Transmit p) =
+    (eqb (p .priority) 0, Bad 1)
+    ∷ (not (belongs ring (p .master)), Bad 4)
+    ∷ (not (eqb (p .failing) 0), Bad 10)
+    ∷ (not (belongs ring (p .named)), Bad 16)
+    ∷ []
+fieldTests ring (Information h) =
+    (eqb (h .priority) 0, Bad 1)
+    ∷ (ltb 7 (h .channel), Bad 4)
+    ∷ (ltb 1492 (h .length), Bad 6)
+    ∷ []
+
+-- each of k pad octets from a place on
+unfoldable pub padTests : List ℕ → ℕ → ℕ → List (Bool × Looked)
+padTests s from zero = []
+padTests s from (suc k) = (not (eqb (getD s from 0) 0), Bad from) ∷ padTests s (suc from) k
+
+abbrev pub lengthTests : ℕ → ℕ → ℕ → List (Bool × Looked)
+lengthTests is called from = (not (eqb is called), Bad from) ∷ []
+
+-- the place that a wrong length is laid to
+abbrev pub lengthFrom : Packet → ℕ
+lengthFrom (Token p) = 0
+lengthFrom (Transmit p) = 0
+lengthFrom (Information h) = 6
+
+abbrev pub restTests : List ℕ → Packet → List (Bool × Looked)
+restTests s p = padTests s (padFrom p) (46 - padFrom p) ++ lengthTests (length s) (size p) (lengthFrom p)
+
+abbrev pub readTests : List ℕ → List ℕ → Packet → List (Bool × Looked)
+readTests ring s p = fieldTests ring p ++ restTests s p
+
+abbrev pub writeTests : List ℕ → Packet → ℕ → List (Bool × Looked)
+writeTests ring p info = fieldTests ring p ++ lengthTests info (informationLength p) (lengthFrom p)
+
+-- what more looking gives after a first look: the first bad place stays
+abbrev pub thenLooked : Looked → Looked → Looked
+thenLooked Sound more = more
+thenLooked (Bad from) more = Bad from
+
+-- this paper's answer for each case: whether the fields call for 12
+abbrev pub isBad : Looked → Bool
+isBad Sound = false
+isBad (Bad from) = true
+
+-- ---- reading and writing
+
+unfoldable pub readPacket : List ℕ → List ℕ → Read
+readPacket ring s =
+    firstOf (Good (packetOf s))
+    ((ltb (length s) 46, Refused 10)
+    ∷ (ltb 1500 (length s), Refused 10)
+    ∷ (ltb (identifier s) 1, Refused 11)
+    ∷ (ltb 3 (identifier s), Refused 11)
+    ∷ (isBad (firstOf Sound (readTests ring s (packetOf s))), Refused 12)
+    ∷ [])
+
+unfoldable pub writeRefusal : List ℕ → Packet → ℕ → ℕ → ℕ
+writeRefusal ring p info room =
+    firstOf 0
+    ((ltb room 1500, 9)
+    ∷ (isBad (firstOf Sound (writeTests ring p info)), 12)
+    ∷ [])
+
+-- a packet that is fit to write
+abbrev pub Fit : List ℕ → Packet → List ℕ → Type 0
+Fit ring p info = firstOf Sound (writeTests ring p (length info)) ≡ Sound
+
+-- what a call with the number r leaves of a buffer: the new octets where r is 0, else the old ones
+abbrev pub kept : ℕ → List ℕ → List ℕ → List ℕ
+kept r old new = cond (eqb r 0) new old
+
+pub record Written (ring : List ℕ) (p : Packet) (info out : List ℕ) (r : ℕ) (out′ : List ℕ) : Type 0 where
+  pub answer : r ≡ writeRefusal ring p (length info) (length out)
+  pub out-is : out′ ≡ kept r out (laid out 0 (packetOctets p info))

@@ -1,0 +1,80 @@
+// Reading a packet against a ring.
+ghost use mathlib.Core.Path.{_≡_};
+ghost use Prim.Native.Nat.{_≤_};
+ghost use lib.ListN.{length};
+ghost use Rattle.packet_codec.specs.Packet.{shortOf, headOf, packetOf, readPacket};
+use crate::fields::Looked;
+use crate::fields::look_read;
+use crate::packet::Head;
+use crate::packet::Packet;
+use crate::packet::Short;
+use codec::octets::get;
+
+// What reading a packet gives: the packet, or the number of the refusal.
+pub enum Read {
+    Refused(u32),
+    Good(Packet),
+}
+
+pub fn short_of(s: &[u8]) -> Short
+    requires { ⌜ 46 ≤ length (now s) ⌝ }
+    ensures { λ r. ⌜ r ≡ shortOf (now (s .entry)) ⌝ }
+{
+    Short {
+        priority: s[Packet::PRIORITY],
+        number: get(s, Packet::NUMBER, 2) as u16,
+        master: get(s, Packet::MASTER, 6),
+        failing: get(s, Packet::FAILING, 6),
+        named: get(s, Packet::NAMED, 6),
+    }
+}
+
+pub fn head_of(s: &[u8]) -> Head
+    requires { ⌜ 46 ≤ length (now s) ⌝ }
+    ensures { λ r. ⌜ r ≡ headOf (now (s .entry)) ⌝ }
+{
+    Head {
+        priority: s[Packet::PRIORITY],
+        number: get(s, Packet::NUMBER, 2) as u16,
+        channel: get(s, Packet::CHANNEL, 2) as u16,
+        length: get(s, Packet::LENGTH, 2) as u16,
+    }
+}
+
+// The packet that the fields make, by the identifier.
+pub fn packet_of(s: &[u8]) -> Packet
+    requires { ⌜ 46 ≤ length (now s) ⌝ }
+    ensures { λ r. ⌜ r ≡ packetOf (now (s .entry)) ⌝ }
+{
+    let identifier = s[0];
+    if identifier == 1 {
+        return Packet::Token(short_of(s));
+    }
+    if identifier == 2 {
+        return Packet::Transmit(short_of(s));
+    }
+    Packet::Information(head_of(s))
+}
+
+pub fn read_packet(ring: &[u64], s: &[u8]) -> Read
+    ensures { λ r. ⌜ r ≡ readPacket (now (ring .entry)) (now (s .entry)) ⌝ }
+{
+    if s.len() < Packet::SHORT {
+        return Read::Refused(10);
+    }
+    if Packet::LONGEST < s.len() {
+        return Read::Refused(10);
+    }
+    let identifier = s[0];
+    if identifier < 1 {
+        return Read::Refused(11);
+    }
+    if 3 < identifier {
+        return Read::Refused(11);
+    }
+    let p = packet_of(s);
+    match look_read(ring, s, p) {
+        Looked::Sound => Read::Good(p),
+        Looked::Bad(_) => Read::Refused(12),
+    }
+}

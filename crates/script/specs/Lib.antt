@@ -1,0 +1,4 @@
+pub mod Lines
+pub mod Script
+pub mod Session
+pub mod Reading
