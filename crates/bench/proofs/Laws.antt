@@ -9,3 +9,8 @@ pub mod Laying
 pub mod Running
 pub mod Turns
 pub mod Going
+pub mod Again
+pub mod Shared
+pub mod Breaks
+pub mod Touched
+pub mod Stepping

@@ -5,3 +5,4 @@ pub mod Rows
 pub mod Runs
 pub mod Text
 pub mod Running
+pub mod Table

@@ -28,14 +28,14 @@ impl Bench {
                 number: 15,
             };
         }
-        let s = self.stations[from];
-        let a = s.queue(to, priority, channel, length);
-        let t = a.station;
+        let before = self.stations;
+        let q = crate::table::queue_in(before, from, to, priority, channel, length);
+        let after = q.stations;
         let mut bench = self;
-        bench.stations[from] = t;
+        bench.stations = after;
         Queued {
             bench,
-            number: a.number,
+            number: q.number,
         }
     }
 }

@@ -4,4 +4,5 @@ pub mod delivery;
 pub mod ring;
 pub mod rows;
 pub mod running;
+pub mod table;
 pub mod text;

@@ -10,8 +10,10 @@ use Rattle.station.specs.declared.station.Answer.{Answer}
 use Rattle.parts.proofs.Laws.Choose.{pick-true, pick-false}
 use Rattle.bench.specs.Ring.{stationAt}
 use Rattle.bench.specs.Calls.{withStation, queue}
+use Rattle.bench.specs.Table.{queuedIn}
 use Rattle.bench.specs.declared.ring.Bench.{Bench}
 use Rattle.bench.specs.declared.calls.Queued.{Queued}
+use Rattle.bench.specs.declared.table.QueuedIn.{QueuedIn}
 
 module _ (b : Bench) (m from to priority channel length : ℕ) (e : m ≡ seats (b .n)) where
   -- a FROM outside the ring
@@ -24,3 +26,8 @@ module _ (b : Bench) (m from to priority channel length : ℕ) (e : m ≡ seats 
       → _≡_ {A = Queued} (record { bench = withStation b from (a .station); number = a .number }) (queue b from to priority channel length)
   unfolding queue
   queue-inside s a h i j = rw (j, i) (sym (pick-false _ _ (ap (λ (k : ℕ). leb k from) (sym e) ∙ lt-leb m from h)))
+
+  -- the same of what the call at the record gives
+  pub queue-at-record : (q : QueuedIn) → from < m → q ≡ queuedIn (b .stations) from to priority channel length
+      → _≡_ {A = Queued} (record { bench = record { n = b .n; stations = q .stations; wire = b .wire }; number = q .number }) (queue b from to priority channel length)
+  queue-at-record q h i = rw i (queue-inside (stationAt b from) _ h refl refl)
