@@ -15,49 +15,49 @@ long : (c : tie.Else1) → ltb (length (c .before .before .args .file .now)) 2 �
 long c = le-ltb _ _ (c .if1 .left)
 
 form-good : (c : tie.Else2) → eqb (form (c .before .before .before .before .args .file .now)) 1 ≡ true
-form-good c = eq-eqb _ _ (sym (c .before .bits .ensures .0) ∙ c .if2 .left)
+form-good c = eq-eqb _ _ (sym (c .before .bits-from .ensures .0) ∙ c .if2 .left)
 
 zero-good : (c : tie.Else3) → eqb (zeroBits (c .before .before .before .before .before .before .args .file .now)) 0 ≡ true
-zero-good c = eq-eqb _ _ (sym (c .before .bits2 .ensures .0) ∙ c .if3 .left)
+zero-good c = eq-eqb _ _ (sym (c .before .bits-from2 .ensures .0) ∙ c .if3 .left)
 
 others-good : (c : tie.Else4) → eqb (others (c .before .before .before .before .before .before .before .before .args .file .now)) 0 ≡ false
-others-good c = ne-eqb _ _ (λ e. c .if4 .left (c .before .bits3 .ensures .0 ∙ e))
+others-good c = ne-eqb _ _ (λ e. c .if4 .left (c .before .bits-from3 .ensures .0 ∙ e))
 
 limit-good : (c : tie.Else5) → eqb (limit (c .before .before .before .before .before .before .before .before .before .before .args .file .now)) 0 ≡ false
-limit-good c = ne-eqb _ _ (λ e. c .if5 .left (c .before .bits4 .ensures .0 ∙ e))
+limit-good c = ne-eqb _ _ (λ e. c .if5 .left (c .before .bits-from4 .ensures .0 ∙ e))
 
 returns : tie.Need-returns
 unfolding headRefusal
 returns c = simp (lt-ltb _ _ (c .if1 .taken))
 
-bits-requires : tie.Need-bits-requires
-bits-requires c κs = search needs
+bits-from-requires : tie.Need-bits-from-requires
+bits-from-requires c κs = search needs
 
 returns-2 : tie.Need-returns-2
 unfolding headRefusal
-returns-2 c = simp (long (c .before .before), ne-eqb _ _ (λ e. c .if2 .taken (c .before .bits .ensures .0 ∙ e)))
+returns-2 c = simp (long (c .before .before), ne-eqb _ _ (λ e. c .if2 .taken (c .before .bits-from .ensures .0 ∙ e)))
 
-bits-requires-2 : tie.Need-bits-requires-2
-bits-requires-2 c κs = search needs
+bits-from-requires-2 : tie.Need-bits-from-requires-2
+bits-from-requires-2 c κs = search needs
 
 returns-3 : tie.Need-returns-3
 unfolding headRefusal
 returns-3 c =
     let e2 = c .before .before in
-    simp (long (e2 .before .before), form-good e2, ne-eqb _ _ (λ e. c .if3 .taken (c .before .bits2 .ensures .0 ∙ e)))
+    simp (long (e2 .before .before), form-good e2, ne-eqb _ _ (λ e. c .if3 .taken (c .before .bits-from2 .ensures .0 ∙ e)))
 
-bits-requires-3 : tie.Need-bits-requires-3
-bits-requires-3 c κs = search needs
+bits-from-requires-3 : tie.Need-bits-from-requires-3
+bits-from-requires-3 c κs = search needs
 
 returns-4 : tie.Need-returns-4
 unfolding headRefusal
 returns-4 c =
     let e3 = c .before .before in
     let e2 = e3 .before .before in
-    simp (long (e2 .before .before), form-good e2, zero-good e3, eq-eqb _ _ (sym (c .before .bits3 .ensures .0) ∙ c .if4 .taken))
+    simp (long (e2 .before .before), form-good e2, zero-good e3, eq-eqb _ _ (sym (c .before .bits-from3 .ensures .0) ∙ c .if4 .taken))
 
-bits-requires-4 : tie.Need-bits-requires-4
-bits-requires-4 c κs = search needs
+bits-from-requires-4 : tie.Need-bits-from-requires-4
+bits-from-requires-4 c κs = search needs
 
 returns-5 : tie.Need-returns-5
 unfolding headRefusal
@@ -65,7 +65,7 @@ returns-5 c =
     let e4 = c .before .before in
     let e3 = e4 .before .before in
     let e2 = e3 .before .before in
-    simp (long (e2 .before .before), form-good e2, zero-good e3, others-good e4, eq-eqb _ _ (sym (c .before .bits4 .ensures .0) ∙ c .if5 .taken))
+    simp (long (e2 .before .before), form-good e2, zero-good e3, others-good e4, eq-eqb _ _ (sym (c .before .bits-from4 .ensures .0) ∙ c .if5 .taken))
 
 add-if6 : tie.Need-add-if6
 add-if6 c = search needs
@@ -83,7 +83,7 @@ returns-6 c =
     let e4 = e5 .before .before in
     let e3 = e4 .before .before in
     let e2 = e3 .before .before in
-    let sized = ap (λ (n : ℕ). 2 + 6 * (n + 1)) (sym (e4 .before .bits3 .ensures .0)) in
+    let sized = ap (λ (n : ℕ). 2 + 6 * (n + 1)) (sym (e4 .before .bits-from3 .ensures .0)) in
     simp (long (e2 .before .before), form-good e2, zero-good e3, others-good e4, limit-good e5, ne-eqb _ _ (λ e. c .if6 .taken (e ∙ sized)))
 
 returns-7 : tie.Need-returns-7
@@ -93,7 +93,7 @@ returns-7 c =
     let e4 = e5 .before .before in
     let e3 = e4 .before .before in
     let e2 = e3 .before .before in
-    let sized = ap (λ (n : ℕ). 2 + 6 * (n + 1)) (sym (e4 .before .bits3 .ensures .0)) in
+    let sized = ap (λ (n : ℕ). 2 + 6 * (n + 1)) (sym (e4 .before .bits-from3 .ensures .0)) in
     simp (long (e2 .before .before), form-good e2, zero-good e3, others-good e4, limit-good e5, eq-eqb _ _ (c .if6 .left ∙ sym sized))
 
 pub head-refusal-spec : {M : Type 1} → statement M
@@ -101,13 +101,13 @@ head-refusal-spec =
     tie.close
     (tie.spec
     returns
-    bits-requires
+    bits-from-requires
     returns-2
-    bits-requires-2
+    bits-from-requires-2
     returns-3
-    bits-requires-3
+    bits-from-requires-3
     returns-4
-    bits-requires-4
+    bits-from-requires-4
     returns-5
     add-if6
     mul-if6

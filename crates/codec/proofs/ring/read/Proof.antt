@@ -12,7 +12,7 @@ use Rattle.codec.proofs.ring.read.Statement.{statement}
 use Rattle.codec.proofs.ring.read.Tie as tie
 use Rattle.codec.proofs.ring.read.Reads as reads
 use Rattle.codec.proofs.ring.read.Lts as lts
-use Rattle.codec.proofs.bits.bits.Reads as bits-reads
+use Rattle.codec.proofs.reader.bits_from.Reads as bits-from-reads
 use Rattle.codec.proofs.ring.addresses_of.Reads as addresses-of-reads
 use Rattle.codec.proofs.ring.addresses_refusal.Reads as addresses-refusal-reads
 use Rattle.codec.proofs.ring.head_refusal.Reads as head-refusal-reads
@@ -35,8 +35,8 @@ returns c =
 good : (c : tie.Else1) → HeadGood (c .before .before .before .args .file .now)
 good c = head-good _ (sym (c .before .head-refusal .ensures) ∙ c .if1 .left)
 
-bits-requires : tie.Need-bits-requires
-bits-requires c κs = omega (arith, good c)
+bits-from-requires : tie.Need-bits-from-requires
+bits-from-requires c κs = omega (arith, good c)
 
 add-n : tie.Need-add-n
 add-n c = search needs
@@ -44,7 +44,7 @@ add-n c = search needs
 addresses-of-requires : tie.Need-addresses-of-requires
 addresses-of-requires c κs =
     let file = c .before .before .before .before .args .file .now in
-    let e : c .bits .result ≡ others file = c .bits .ensures .0 in
+    let e : c .bits-from .result ≡ others file = c .bits-from .ensures .0 in
     omega (arith, good (c .before), e, bits-below file 4 6)
 
 slice-aggregate-members : tie.Need-slice-aggregate-members
@@ -67,9 +67,9 @@ late c =
     let b = a .before in
     let e = b .before in
     let file = e .before .before .before .args .file .now in
-    read-steps file (b .bits .result + 1) (c .addresses-refusal .result) (a .addresses-of .result) (m .members .result .now)
+    read-steps file (b .bits-from .result + 1) (c .addresses-refusal .result) (a .addresses-of .result) (m .members .result .now)
     (sym (e .before .head-refusal .ensures) ∙ e .if1 .left)
-    (ap (λ (n : ℕ). n + 1) (b .bits .ensures .0))
+    (ap (λ (n : ℕ). n + 1) (b .bits-from .ensures .0))
     (a .addresses-of .ensures)
     (m .members .ensures)
     (c .addresses-refusal .ensures)
@@ -79,8 +79,8 @@ returns-2 c =
     let t = c .before in
     c .no-ring2 .ensures ∙ sym (read-refused _ (t .before .addresses-refusal .result) (late (t .before)) (t .if2 .taken))
 
-bits-requires-2 : tie.Need-bits-requires-2
-bits-requires-2 c κs = omega (arith, good (c .before .before .before .before .before .before))
+bits-from-requires-2 : tie.Need-bits-from-requires-2
+bits-from-requires-2 c κs = omega (arith, good (c .before .before .before .before .before .before))
 
 cast-limit : tie.Need-cast-limit
 cast-limit c = search needs
@@ -92,9 +92,9 @@ returns-3 c =
     let a = e .before .before .before .before in
     let b = a .before in
     let file = b .before .before .before .before .args .file .now in
-    let n : b .bits .result + 1 ≡ count file = ap (λ (k : ℕ). k + 1) (b .bits .ensures .0) in
+    let n : b .bits-from .result + 1 ≡ count file = ap (λ (k : ℕ). k + 1) (b .bits-from .ensures .0) in
     let same : a .addresses-of .result ≡ filled (addressesOf file (count file)) = a .addresses-of .ensures ∙ ap (λ (k : ℕ). filled (addressesOf file k)) n in
-    rw (n, same, c .bits2 .ensures .0) (sym (read-good file (late (e .before) ∙ e .if2 .left)))
+    rw (n, same, c .bits-from2 .ensures .0) (sym (read-good file (late (e .before) ∙ e .if2 .left)))
 
 pub read-spec : {M : Type 1} → statement M
 read-spec =
@@ -103,7 +103,7 @@ read-spec =
     head-refusal-requires
     no-ring-requires
     returns
-    bits-requires
+    bits-from-requires
     add-n
     addresses-of-requires
     slice-aggregate-members
@@ -111,6 +111,6 @@ read-spec =
     addresses-refusal-requires
     no-ring-requires-2
     returns-2
-    bits-requires-2
+    bits-from-requires-2
     cast-limit
     returns-3)
