@@ -7,6 +7,7 @@ use lib.ListN.{length, take, drop, getD}
 use Rattle.codec.specs.Order.{firstOf}
 use Rattle.codec.specs.Octets.{octets, zeros}
 use Rattle.codec.specs.Bits.{bits}
+use Rattle.codec.specs.declared.head.HeadBits.{HeadBits}
 use Rattle.codec.specs.declared.ring.Ring.{Ring}
 use Rattle.codec.specs.declared.ring.RingRead.{RingRead}
 
@@ -27,6 +28,9 @@ limit file = bits file 10 4
 
 abbrev pub zeroBits : List ℕ → ℕ
 zeroBits file = bits file 14 2
+
+abbrev pub headBits : List ℕ → HeadBits
+headBits file = record { form = form file; others = others file; limit = limit file; zeros = zeroBits file }
 
 -- the first n addresses of a file
 unfoldable pub addressesOf : List ℕ → ℕ → List ℕ

@@ -1,4 +1,6 @@
 // The foot of the codec: numbers in octets and bits, and the ring file.
 pub mod bits;
+pub mod head;
 pub mod octets;
+pub mod reader;
 pub mod ring;

@@ -5,7 +5,8 @@ ghost use mathlib.Core.List.{_++_};
 ghost use Prim.Native.Nat.{_+_, _*_, _≤_, _<_, _^_};
 ghost use lib.ListN.{length, take, drop, getD};
 ghost use Rattle.codec.specs.Ring.{badAddress, position, isMember, headRefusal, addressesOf, addressRefusal, addressesRefusal, readRing, noRing, filled};
-use crate::bits::bits;
+use crate::head::head_of;
+use crate::reader::bits_from;
 
 // A ring by value: how many members, the retry limit, the members' addresses in ring order and then zeros.
 pub struct Ring {
@@ -124,20 +125,20 @@ pub fn head_refusal(file: &[u8]) -> u32
     if file.len() < 2 {
         return 1;
     }
-    if bits(file, 0, 4) != 1 {
+    let head = head_of(file);
+    if head.form != 1 {
         return 2;
     }
-    if bits(file, 14, 2) != 0 {
+    if head.zeros != 0 {
         return 3;
     }
-    let more = bits(file, 4, 6);
-    if more == 0 {
+    if head.others == 0 {
         return 4;
     }
-    if bits(file, 10, 4) == 0 {
+    if head.limit == 0 {
         return 5;
     }
-    if file.len() as u64 != 2 + 6 * (more + 1) {
+    if file.len() as u64 != 2 + 6 * (head.others + 1) {
         return 1;
     }
     0
@@ -151,7 +152,7 @@ pub fn addresses_of(file: &[u8], n: usize) -> [u64; 64]
     let mut addresses = [0u64; 64];
     let mut i = 0;
     while i < n {
-        addresses[i] = bits(file, 16 + i * 48, 48);
+        addresses[i] = bits_from(file, 16 + i * 48, 48);
         i += 1;
     }
     addresses
@@ -178,13 +179,14 @@ pub fn read(file: &[u8]) -> RingRead
     if early != 0 {
         return no_ring(early);
     }
-    let n = bits(file, 4, 6) as usize + 1;
+    let head = head_of(file);
+    let n = head.others as usize + 1;
     let addresses = addresses_of(file, n);
     let number = addresses_refusal(members(&addresses, n));
     if number != 0 {
         return no_ring(number);
     }
-    let limit = bits(file, 10, 4) as u8;
+    let limit = head.limit as u8;
     RingRead {
         number: 0,
         ring: Ring {

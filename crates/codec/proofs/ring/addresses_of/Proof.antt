@@ -17,14 +17,14 @@ loop-holds : tie.Need-loop-holds Inv-loop μ-loop
 unfolding addressesOf
 loop-holds c = (omega arith, refl)
 
-mul-bits : tie.Need-mul-bits Inv-loop μ-loop
-mul-bits c = omega arith
+mul-bits-from : tie.Need-mul-bits-from Inv-loop μ-loop
+mul-bits-from c = omega arith
 
-add-bits : tie.Need-add-bits Inv-loop μ-loop
-add-bits c = omega arith
+add-bits-from : tie.Need-add-bits-from Inv-loop μ-loop
+add-bits-from c = omega arith
 
-bits-requires : tie.Need-bits-requires Inv-loop μ-loop
-bits-requires c κs = omega arith
+bits-from-requires : tie.Need-bits-from-requires Inv-loop μ-loop
+bits-from-requires c κs = omega arith
 
 mul-addresses : tie.Need-mul-addresses Inv-loop μ-loop
 mul-addresses c = omega arith
@@ -42,7 +42,7 @@ loop-again : tie.Need-loop-again Inv-loop μ-loop
 loop-again c =
     let l = c .before .before .loop in
     let file = c .before .before .before .before .args .file .now in
-    (omega arith, cc (l .inv .1, c .bits .ensures .0, addresses-stored file (l .i) (omega arith)))
+    (omega arith, cc (l .inv .1, c .bits-from .ensures .0, addresses-stored file (l .i) (omega arith)))
 
 returns : tie.Need-returns Inv-loop μ-loop
 returns c =
@@ -57,9 +57,9 @@ addresses-of-spec =
     Inv-loop
     μ-loop
     loop-holds
-    mul-bits
-    add-bits
-    bits-requires
+    mul-bits-from
+    add-bits-from
+    bits-from-requires
     mul-addresses
     array-write-addresses
     add-i

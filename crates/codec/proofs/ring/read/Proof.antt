@@ -5,14 +5,15 @@ use native.Mathlib.Omega.{arith}
 use borrow.Author.Needs.{needs}
 use borrow.Author.Tests.{eq-eqb, ne-eqb}
 use lib.ListN.{length, take}
-use Rattle.codec.specs.Ring.{others, count, addressesOf, ringRefusal, filled, ringOf}
+use Rattle.codec.specs.Ring.{others, limit, count, addressesOf, ringRefusal, filled, ringOf}
+use Rattle.codec.specs.declared.head.HeadBits.{HeadBits}
 use Rattle.codec.proofs.Laws.Bits.{bits-below}
 use Rattle.codec.proofs.Laws.Ring.{HeadGood, head-good, refused-early, read-refused, read-good, read-steps}
 use Rattle.codec.proofs.ring.read.Statement.{statement}
 use Rattle.codec.proofs.ring.read.Tie as tie
 use Rattle.codec.proofs.ring.read.Reads as reads
 use Rattle.codec.proofs.ring.read.Lts as lts
-use Rattle.codec.proofs.bits.bits.Reads as bits-reads
+use Rattle.codec.proofs.head.head_of.Reads as head-of-reads
 use Rattle.codec.proofs.ring.addresses_of.Reads as addresses-of-reads
 use Rattle.codec.proofs.ring.addresses_refusal.Reads as addresses-refusal-reads
 use Rattle.codec.proofs.ring.head_refusal.Reads as head-refusal-reads
@@ -35,17 +36,23 @@ returns c =
 good : (c : tie.Else1) → HeadGood (c .before .before .before .args .file .now)
 good c = head-good _ (sym (c .before .head-refusal .ensures) ∙ c .if1 .left)
 
-bits-requires : tie.Need-bits-requires
-bits-requires c κs = omega (arith, good c)
+head-of-requires : tie.Need-head-of-requires
+head-of-requires c κs = omega (arith, good c)
+
+-- the fields that were taken are the file's
+the-others : (c : tie.After-head-of) → c .head-of .result .others ≡ others (c .before .before .before .before .args .file .now)
+the-others c = ap (λ (r : HeadBits). r .others) (c .head-of .ensures)
+
+the-limit : (c : tie.After-head-of) → c .head-of .result .limit ≡ limit (c .before .before .before .before .args .file .now)
+the-limit c = ap (λ (r : HeadBits). r .limit) (c .head-of .ensures)
 
 add-n : tie.Need-add-n
-add-n c = search needs
+add-n c = omega (arith, the-others c, bits-below (c .before .before .before .before .args .file .now) 4 6)
 
 addresses-of-requires : tie.Need-addresses-of-requires
 addresses-of-requires c κs =
     let file = c .before .before .before .before .args .file .now in
-    let e : c .bits .result ≡ others file = c .bits .ensures .0 in
-    omega (arith, good (c .before), e, bits-below file 4 6)
+    omega (arith, good (c .before), the-others c, bits-below file 4 6)
 
 slice-aggregate-members : tie.Need-slice-aggregate-members
 slice-aggregate-members c = search needs
@@ -67,9 +74,9 @@ late c =
     let b = a .before in
     let e = b .before in
     let file = e .before .before .before .args .file .now in
-    read-steps file (b .bits .result + 1) (c .addresses-refusal .result) (a .addresses-of .result) (m .members .result .now)
+    read-steps file (b .head-of .result .others + 1) (c .addresses-refusal .result) (a .addresses-of .result) (m .members .result .now)
     (sym (e .before .head-refusal .ensures) ∙ e .if1 .left)
-    (ap (λ (n : ℕ). n + 1) (b .bits .ensures .0))
+    (ap (λ (n : ℕ). n + 1) (the-others b))
     (a .addresses-of .ensures)
     (m .members .ensures)
     (c .addresses-refusal .ensures)
@@ -79,11 +86,10 @@ returns-2 c =
     let t = c .before in
     c .no-ring2 .ensures ∙ sym (read-refused _ (t .before .addresses-refusal .result) (late (t .before)) (t .if2 .taken))
 
-bits-requires-2 : tie.Need-bits-requires-2
-bits-requires-2 c κs = omega (arith, good (c .before .before .before .before .before .before))
-
 cast-limit : tie.Need-cast-limit
-cast-limit c = search needs
+cast-limit c =
+    let b = c .before .before .before .before .before .before in
+    omega (arith, the-limit b, bits-below (b .before .before .before .before .args .file .now) 10 4)
 
 returns-3 : tie.Need-returns-3
 unfolding ringOf
@@ -92,9 +98,9 @@ returns-3 c =
     let a = e .before .before .before .before in
     let b = a .before in
     let file = b .before .before .before .before .args .file .now in
-    let n : b .bits .result + 1 ≡ count file = ap (λ (k : ℕ). k + 1) (b .bits .ensures .0) in
+    let n : b .head-of .result .others + 1 ≡ count file = ap (λ (k : ℕ). k + 1) (the-others b) in
     let same : a .addresses-of .result ≡ filled (addressesOf file (count file)) = a .addresses-of .ensures ∙ ap (λ (k : ℕ). filled (addressesOf file k)) n in
-    rw (n, same, c .bits2 .ensures .0) (sym (read-good file (late (e .before) ∙ e .if2 .left)))
+    rw (n, same, the-limit b) (sym (read-good file (late (e .before) ∙ e .if2 .left)))
 
 pub read-spec : {M : Type 1} → statement M
 read-spec =
@@ -103,7 +109,7 @@ read-spec =
     head-refusal-requires
     no-ring-requires
     returns
-    bits-requires
+    head-of-requires
     add-n
     addresses-of-requires
     slice-aggregate-members
@@ -111,6 +117,5 @@ read-spec =
     addresses-refusal-requires
     no-ring-requires-2
     returns-2
-    bits-requires-2
     cast-limit
     returns-3)

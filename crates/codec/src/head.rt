@@ -1,0 +1,31 @@
+// The head of a ring file: the four fields before the addresses.
+ghost use mathlib.Core.Path.{_≡_};
+ghost use Prim.Native.Nat.{_≤_};
+ghost use lib.ListN.{length};
+ghost use Rattle.codec.specs.Ring.{headBits};
+use crate::reader::take;
+
+pub struct HeadBits {
+    pub form: u64,
+    pub others: u64,
+    pub limit: u64,
+    pub zeros: u64,
+}
+
+// The fields of a file's head, taken one after the other.
+pub fn head_of(file: &[u8]) -> HeadBits
+    requires { ⌜ 2 ≤ length (now file) ⌝ }
+    ensures { λ r. ⌜ r ≡ headBits (now (file .entry)) ⌝ }
+{
+    let mut r = crate::reader::new(file);
+    let form = take(&mut r, 4);
+    let others = take(&mut r, 6);
+    let limit = take(&mut r, 4);
+    let zeros = take(&mut r, 2);
+    HeadBits {
+        form,
+        others,
+        limit,
+        zeros,
+    }
+}
