@@ -4,6 +4,7 @@ use Prim.Native.Nat.{ℕ, zero, suc, _+_, _-_, _*_, max}
 use mathlib.Core.Bool.{Bool, true, false, not}
 use mathlib.Core.List.{List, [], _∷_, _++_}
 use lib.Dec.{ltb, leb, eqb}
+use lib.ListN.{replicate}
 use Rattle.codec.specs.Octets.{octets, numberAt}
 use Rattle.parts.specs.Choose.{pick, allOf}
 use Rattle.parts.specs.Moves.{stateNumber}
@@ -199,6 +200,10 @@ greatest s at (suc k) = max (numberAt s at 1) (greatest s (suc at) k)
 
 abbrev pub liveOctets : Live → List ℕ
 liveOctets l = joined flagOctets (l .on)
+
+-- of n live seats
+abbrev pub ones : ℕ → List ℕ
+ones n = replicate n 1
 
 -- ---- a message: other end, priority, channel, place, length
 

@@ -4,7 +4,7 @@ ghost use Prim.Native.Nat.{_+_, _≤_, max};
 ghost use lib.ListN.{length};
 ghost use Rattle.codec.specs.Octets.{laid};
 ghost use Rattle.records.specs.Layout.{liveAt, recordLength};
-ghost use Rattle.records.specs.Fields.{flagFrom, flagNumber, liveFrom, flagsGood, greatest, liveOctets};
+ghost use Rattle.records.specs.Fields.{flagFrom, flagNumber, liveFrom, flagsGood, greatest, liveOctets, ones};
 use crate::layout::LIVE;
 use codec::octets::get;
 use codec::octets::put;
@@ -74,6 +74,18 @@ pub fn put_live(out: &mut [u8], live: Live)
         let on = live.on[p];
         let x = flag_number(on);
         put(out, LIVE + p, 1, x);
+        p += 1;
+    }
+}
+
+// Lays `n` ones over the start of the live set.
+pub fn put_ones(out: &mut [u8], n: usize)
+    requires { ⌜ (recordLength ≤ length (now out)) × (n ≤ 64) ⌝ }
+    ensures { λ _. ⌜ now (out .exit) ≡ laid (now (out .entry)) liveAt (ones n) ⌝ }
+{
+    let mut p: usize = 0;
+    while p < n {
+        out[LIVE + p] = 1;
         p += 1;
     }
 }

@@ -4,6 +4,7 @@ ghost use mathlib.Core.List.{_++_};
 ghost use Prim.Native.Nat.{_+_, _≤_};
 ghost use lib.ListN.{length};
 ghost use Rattle.codec.specs.Octets.{laid};
+ghost use Rattle.station.specs.Stations.{made};
 ghost use Rattle.records.specs.Layout.{ownAt, sendsAt, recordLength, ringRoom};
 ghost use Rattle.records.specs.Fields.{turnOctets, liveOctets, messagesOctets};
 ghost use Rattle.records.specs.Record.{
@@ -182,13 +183,15 @@ pub fn save(out: &mut [u8], s: Station)
     put_lists(out, s.sends, s.receives);
 }
 
-// Writes a record anew: the ring file and zeros, then the station.
-pub fn save_new(out: &mut [u8], file: &[u8], s: Station)
-    requires { ⌜ (recordLength ≤ length (now out)) × (length (now file) ≤ ringRoom) ⌝ }
-    ensures { λ _. ⌜ now (out .exit) ≡ laid (now (out .entry)) 0 (recordOctets (now (file .entry)) s) ⌝ }
+// Writes the record of a made station anew: the ring file, zeros up to the end, own position and `n` live
+// seats. The retry limit stands in the ring file alone.
+pub fn save_new(out: &mut [u8], file: &[u8], n: usize, own: usize)
+    requires { ⌜ (recordLength ≤ length (now out)) × ((length (now file) ≤ ringRoom) × (n ≤ 64)) ⌝ }
+    ensures { λ _. ⌜ now (out .exit) ≡ laid (now (out .entry)) 0 (recordOctets (now (file .entry)) (made n 0 own)) ⌝ }
 {
     copy(out, 0, file);
-    let n = file.len();
-    clear(out, n, RING_ROOM - n);
-    save(out, s);
+    let end = file.len();
+    clear(out, end, RECORD - end);
+    codec::octets::put(out, OWN, 1, own as u64);
+    crate::live::put_ones(out, n);
 }

@@ -3,7 +3,6 @@ ghost use Rattle.shell.specs.Calls.{Making};
 use codec::ring::members;
 use records::layout::RECORD;
 use records::record::save_new;
-use station::station::Station;
 
 // Makes a station's record of a ring file and the station's own address.
 pub fn make(rec: &mut [u8], file: &[u8], own: u64) -> u32
@@ -12,18 +11,16 @@ pub fn make(rec: &mut [u8], file: &[u8], own: u64) -> u32
     if rec.len() != RECORD {
         return 35;
     }
-    let read = codec::ring::read(file);
-    if read.number != 0 {
-        return read.number;
+    let mut addresses = [0u64; 64];
+    let number = codec::ring::read_into(file, &mut addresses);
+    if number != 0 {
+        return number;
     }
-    let ring = read.ring;
-    let addresses = ring.addresses;
-    let n = ring.n;
+    let n = codec::bits::bits(file, 4, 6) as usize + 1;
     let seat = codec::ring::position(members(&addresses, n), own);
     if n <= seat {
         return 8;
     }
-    let s = Station::new(n as u8, ring.limit, seat as u8);
-    save_new(rec, file, s);
+    save_new(rec, file, n, seat);
     0
 }

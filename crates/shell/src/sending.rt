@@ -35,8 +35,7 @@ pub fn settle(
     save(rec, station);
     let struck = a.struck;
     let gone = a.gone;
-    let old = *told;
-    *told = tell(old, ring, sent, struck, gone);
+    tell(told, ring, sent, struck, gone);
 }
 
 // Whether the buffers of a call that may send are of their lengths.

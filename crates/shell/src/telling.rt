@@ -1,6 +1,7 @@
 // What a driver is told.
 ghost use mathlib.Core.Path.{_≡_};
 ghost use Prim.Native.Nat.{_+_, _≤_};
+ghost use lib.ListN.{length};
 ghost use Rattle.codec.specs.Octets.{laid};
 ghost use Rattle.shell.specs.Telling.{messageTold, goneTold, toldOf, takenTold};
 use crate::packets::address_of;
@@ -14,57 +15,42 @@ use parts::list::Messages;
 use parts::list::count;
 use station::station::Payload;
 
-// What is told, with a message's other end, priority, channel, length and place from a position on.
-pub fn tell_message(told: [u64; 84], at: usize, ring: &[u64], m: Message) -> [u64; 84]
-    requires { ⌜ at + 5 ≤ 84 ⌝ }
-    ensures { λ r. ⌜ r ≡ laid told at (messageTold (now (ring .entry)) m) ⌝ }
+// Tells a message's other end, priority, channel, length and place, from a position on.
+pub fn tell_message(told: &mut [u64], at: usize, ring: &[u64], m: Message)
+    requires { ⌜ at + 5 ≤ length (now told) ⌝ }
+    ensures { λ _. ⌜ now (told .exit) ≡ laid (now (told .entry)) at (messageTold (now (ring .entry)) m) ⌝ }
 {
-    let other = address_of(ring, m.other);
-    let mut next = told;
-    next[at] = other;
-    next[at + 1] = m.priority as u64;
-    next[at + 2] = m.channel as u64;
-    next[at + 3] = m.length as u64;
-    next[at + 4] = m.place as u64;
-    next
+    told[at] = address_of(ring, m.other);
+    told[at + 1] = m.priority as u64;
+    told[at + 2] = m.channel as u64;
+    told[at + 3] = m.length as u64;
+    told[at + 4] = m.place as u64;
 }
 
-// What is told, with the messages given up.
-pub fn tell_gone(told: [u64; 84], ring: &[u64], gone: Messages) -> [u64; 84]
-    ensures { λ r. ⌜ r ≡ laid told 4 (goneTold (now (ring .entry)) gone) ⌝ }
+// Tells the messages given up.
+pub fn tell_gone(told: &mut [u64], ring: &[u64], gone: Messages)
+    requires { ⌜ 84 ≤ length (now told) ⌝ }
+    ensures { λ _. ⌜ now (told .exit) ≡ laid (now (told .entry)) 4 (goneTold (now (ring .entry)) gone) ⌝ }
 {
     let n = count(gone);
-    let mut next = told;
     let mut i: usize = 0;
     while i < n {
         let m = gone.items[i];
-        let more = tell_message(next, 4 + i * 5, ring, m);
-        next = more;
+        tell_message(told, 4 + i * 5, ring, m);
         i += 1;
     }
-    next
 }
 
-// What a call tells. Numbers beyond stay.
-pub fn tell(
-    told: [u64; 84],
-    ring: &[u64],
-    sent: Dispatch,
-    struck: Whom,
-    gone: Messages,
-) -> [u64; 84]
-    ensures { λ r. ⌜ r ≡ laid told 0 (toldOf (now (ring .entry)) sent struck gone) ⌝ }
+// Tells what a call tells. Numbers beyond stay.
+pub fn tell(told: &mut [u64], ring: &[u64], sent: Dispatch, struck: Whom, gone: Messages)
+    requires { ⌜ 84 ≤ length (now told) ⌝ }
+    ensures { λ _. ⌜ now (told .exit) ≡ laid (now (told .entry)) 0 (toldOf (now (ring .entry)) sent struck gone) ⌝ }
 {
-    let size = sent_size(ring, sent);
-    let to = sent_to(ring, sent);
-    let whom = whom_address(ring, struck);
-    let n = count(gone);
-    let mut next = told;
-    next[0] = size;
-    next[1] = to;
-    next[2] = whom;
-    next[3] = n as u64;
-    tell_gone(next, ring, gone)
+    told[0] = sent_size(ring, sent);
+    told[1] = sent_to(ring, sent);
+    told[2] = whom_address(ring, struck);
+    told[3] = count(gone) as u64;
+    tell_gone(told, ring, gone);
 }
 
 // What take tells.

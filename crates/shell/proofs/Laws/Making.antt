@@ -1,38 +1,55 @@
 -- Laws of making a station's record: the number in its order, and what is left. Assumes nothing.
 use mathlib.Core.Path.{_≡_, refl, sym, ap, _∙_}
-use mathlib.Core.Bool.{true, false}
+use mathlib.Core.Bool.{Bool, true, false, cond}
 use mathlib.Core.List.{List}
 use Prim.Native.Nat.{ℕ, _<_, _≤_}
 use native.Mathlib.Omega.{arith}
-use borrow.Author.Tests.{eq-eqb, ne-eqb, lt-ltb, le-ltb}
-use lib.ListN.{length}
-use lib.Seq.{length-take-le}
+use borrow.Author.Tests.{eq-eqb, eqb-true, ne-eqb, lt-ltb, le-ltb}
+use lib.Dec.{eqb}
+use lib.ListN.{length, take}
 use Rattle.codec.specs.Octets.{laid}
-use Rattle.codec.specs.Ring.{position, isMember, readRing}
+use Rattle.codec.specs.Ring.{count, addressesOf, position, isMember, ringRefusal, noRing, readRing}
+use Rattle.codec.specs.Ring.{ringOf as ringIs}
+use Rattle.codec.specs.declared.ring.Ring.{Ring}
 use Rattle.codec.specs.declared.ring.RingRead.{RingRead}
 use Rattle.codec.proofs.Laws.Bits.{bits-below}
-use Rattle.codec.proofs.Laws.Ring.{head-good, head-passed, read-zero, few-members}
+use Rattle.codec.proofs.Laws.Ring.{HeadGood, head-good, head-passed, length-addresses, members-filled, members-laid, read-good}
 use Rattle.station.specs.Stations.{made}
-use Rattle.station.specs.declared.station.Station.{Station}
 use Rattle.records.specs.Layout.{recordLength, ringRoom}
 use Rattle.records.specs.Record.{recordOctets}
-use Rattle.shell.specs.Calls.{membersOf, ringOf, makeNumber, madeFrom, Making}
-use Rattle.shell.proofs.Laws.Calls.{kept-old, length-filled}
+use Rattle.shell.specs.Calls.{membersOf, ringOf, makeNumber, Making}
+use Rattle.shell.proofs.Laws.Calls.{kept-old}
 
 -- ---- what is read of a ring file
 
-module _ (file : List ℕ) (r : RingRead) (same : r ≡ readRing file) where
-  pub few-read : r .ring .n ≤ 64
-  few-read = rw same (few-members file)
+read-number : (file : List ℕ) → readRing file .number ≡ ringRefusal file
+unfolding readRing
+read-number file = go (eqb (ringRefusal file) 0) refl
+  where
+    go : (b : Bool) → eqb (ringRefusal file) 0 ≡ b → (cond b (record { number = 0; ring = ringIs file }) (noRing (ringRefusal file))) .number ≡ ringRefusal file
+    go true e = sym (eqb-true (ringRefusal file) 0 e)
+    go false e = refl
 
-  pub file-fits : r .number ≡ 0 → length file ≤ ringRoom
-  file-fits good =
-      let z : readRing file .number ≡ 0 = ap (λ (x : RingRead). x .number) (sym same) ∙ good in
-      omega (arith, head-good file (head-passed file (read-zero file z)) .sized, bits-below file 4 6)
+-- how many members a file says that there are
+pub few-counted : (file : List ℕ) (n : ℕ) → n ≡ count file → n ≤ 64
+few-counted file n e = omega (arith, bits-below file 4 6)
 
-length-members : (file : List ℕ) → readRing file .number ≡ 0 → length (ringOf file) ≡ readRing file .ring .n
-length-members file z =
-    length-take-le (readRing file .ring .n) (readRing file .ring .addresses) (omega (arith, length-filled file z, few-members file))
+module _ (file : List ℕ) (number : ℕ) (same : number ≡ ringRefusal file) (good : number ≡ 0) where
+  abbrev not-refused : ringRefusal file ≡ 0
+  not-refused = sym same ∙ good
+
+  pub head-read : HeadGood file
+  head-read = head-good file (head-passed file not-refused)
+
+  pub file-fits : length file ≤ ringRoom
+  file-fits = omega (arith, head-read .sized, bits-below file 4 6)
+
+  ring-read : readRing file .ring ≡ ringIs file
+  ring-read = ap (λ (x : RingRead). x .ring) (read-good file not-refused)
+
+  members-read : ringOf file ≡ addressesOf file (count file)
+  unfolding ringIs
+  members-read = ap membersOf ring-read ∙ members-filled (addressesOf file (count file)) (count file) (length-addresses file (count file))
 
 -- ---- the number and the record
 
@@ -44,37 +61,41 @@ module _ (rec file : List ℕ) (own : ℕ) where
   unfolding makeNumber
   no-record n = not-made 35 (rw (ne-eqb (length rec) recordLength n)) (λ z. omega arith)
 
-  module _ (sized : length rec ≡ recordLength) (r : RingRead) (same : r ≡ readRing file) where
-    abbrev number-is : r .number ≡ readRing file .number
-    number-is = ap (λ (x : RingRead). x .number) same
+  module _ (sized : length rec ≡ recordLength) (number : ℕ) (same : number ≡ ringRefusal file) where
+    abbrev number-is : number ≡ readRing file .number
+    number-is = same ∙ sym (read-number file)
 
-    pub no-ring : (r .number ≡ 0 → ⊥) → Making rec file own (r .number) rec
+    pub no-ring : (number ≡ 0 → ⊥) → Making rec file own number rec
     unfolding makeNumber
     no-ring n =
         let n′ : readRing file .number ≡ 0 → ⊥ = λ e. n (number-is ∙ e) in
-        not-made (r .number) (number-is ∙ rw (eq-eqb (length rec) recordLength sized, ne-eqb (readRing file .number) 0 n′)) n
+        not-made number (number-is ∙ rw (eq-eqb (length rec) recordLength sized, ne-eqb (readRing file .number) 0 n′)) n
 
-    module _ (good : r .number ≡ 0) (ms : List ℕ) (members-are : ms ≡ membersOf (r .ring)) (seat : ℕ) (seat-is : seat ≡ position ms own) where
+    module _ (good : number ≡ 0) (n : ℕ) (counted : n ≡ count file) (l addresses : List ℕ) (read : addresses ≡ laid l 0 (addressesOf file (count file)))
+        (ms : List ℕ) (start : ms ≡ take n addresses) (seat : ℕ) (seat-is : seat ≡ position ms own) where
+      abbrev members-are : ms ≡ ringOf file
+      members-are = start ∙ ap (λ (k : ℕ). take k addresses) counted ∙ members-laid file l addresses (count file) read ∙ sym (members-read file number same good)
+
       abbrev seat-in : seat ≡ position (ringOf file) own
-      seat-in = seat-is ∙ ap (λ (l : List ℕ). position l own) (members-are ∙ ap (λ (x : RingRead). membersOf (x .ring)) same)
+      seat-in = seat-is ∙ ap (λ (o : List ℕ). position o own) members-are
 
-      abbrev count-is : length (ringOf file) ≡ r .ring .n
-      count-is = length-members file (sym number-is ∙ good) ∙ ap (λ (x : RingRead). x .ring .n) (sym same)
+      abbrev count-is : length (ringOf file) ≡ n
+      count-is = ap length (members-read file number same good) ∙ length-addresses file (count file) ∙ sym counted
 
-      pub no-seat : r .ring .n ≤ seat → Making rec file own 8 rec
+      pub no-seat : n ≤ seat → Making rec file own 8 rec
       unfolding makeNumber
       no-seat h =
           let m : isMember (ringOf file) own ≡ false = le-ltb (position (ringOf file) own) (length (ringOf file)) (omega (arith, seat-in, count-is)) in
           not-made 8 (rw (eq-eqb (length rec) recordLength sized, sym number-is ∙ good, m)) (λ z. omega arith)
 
-      pub all-made : seat < r .ring .n → (s : Station) (rec′ : List ℕ) → s ≡ made (r .ring .n) (r .ring .limit) seat
-          → rec′ ≡ laid rec 0 (recordOctets file s) → Making rec file own 0 rec′
-      unfolding makeNumber
-      all-made h s rec′ es e =
+      -- the retry limit is none of the octets
+      pub all-made : seat < n → (rec′ : List ℕ) → rec′ ≡ laid rec 0 (recordOctets file (made n 0 seat)) → Making rec file own 0 rec′
+      unfolding makeNumber ringIs
+      all-made h rec′ e =
           let m : isMember (ringOf file) own ≡ true = lt-ltb (position (ringOf file) own) (length (ringOf file)) (omega (arith, seat-in, count-is)) in
-          let st : s ≡ madeFrom file own =
-          es ∙ ap (λ (x : RingRead). made (x .ring .n) (x .ring .limit) seat) same ∙ ap (made (readRing file .ring .n) (readRing file .ring .limit)) seat-in in
+          let ring : readRing file .ring ≡ ringIs file = ring-read file number same good in
+          let size : readRing file .ring .n ≡ n = ap (λ (x : Ring). x .n) ring ∙ sym counted in
           record {
             answer = rw (eq-eqb (length rec) recordLength sized, sym number-is ∙ good, m);
-            record-is = e ∙ ap (λ (x : Station). laid rec 0 (recordOctets file x)) st;
+            record-is = e ∙ ap (λ (k : ℕ). laid rec 0 (recordOctets file (made k 0 seat))) (sym size) ∙ ap (λ (p : ℕ). laid rec 0 (recordOctets file (made (readRing file .ring .n) 0 p))) seat-in;
           }

@@ -1,6 +1,9 @@
 -- `making::make` meets its contract: at each return the tests that led there say which number it is.
+use mathlib.Core.Path.{_≡_, ap}
+use Prim.Native.Nat.{ℕ, _+_}
 use native.Mathlib.Omega.{arith}
-use Rattle.shell.proofs.Laws.Making.{no-record, no-ring, no-seat, all-made, few-read, file-fits}
+use Rattle.codec.specs.Ring.{count}
+use Rattle.shell.proofs.Laws.Making.{no-record, no-ring, no-seat, all-made, few-counted, head-read, file-fits}
 use borrow.Author.Needs.{needs}
 use Rattle.shell.proofs.making.make.Statement.{statement}
 use Rattle.shell.proofs.making.make.Tie as tie
@@ -8,11 +11,20 @@ use Rattle.shell.proofs.making.make.Tie as tie
 returns : tie.Need-returns
 returns c = no-record _ _ _ (c .if1 .taken)
 
-read-requires : tie.Need-read-requires
-read-requires c κs = search needs
+slice-aggregate-read-into : tie.Need-slice-aggregate-read-into
+slice-aggregate-read-into c = search needs
+
+read-into-requires : tie.Need-read-into-requires
+read-into-requires c κs = search needs
 
 returns-2 : tie.Need-returns-2
-returns-2 c = no-ring _ _ _ (c .before .before .before .if1 .left) _ (c .before .before .read .ensures) (c .if2 .taken)
+returns-2 c = no-ring _ _ _ (c .before .before .before .before .if1 .left) _ (c .before .before .read-into .ensures .0) (c .if2 .taken)
+
+bits-requires : tie.Need-bits-requires
+bits-requires c κs = omega (arith, head-read _ _ (c .before .before .read-into .ensures .0) (c .if2 .left) .long)
+
+add-n : tie.Need-add-n
+add-n c = search needs
 
 slice-aggregate-members : tie.Need-slice-aggregate-members
 slice-aggregate-members c = search needs
@@ -23,35 +35,34 @@ members-requires c κs = search needs
 position-requires : tie.Need-position-requires
 position-requires c κs = search needs
 
+-- how many members there are
+counted : (c : tie.After-bits) → c .bits .result + 1 ≡ count (c .before .before .before .before .before .before .before .before .args .file .now)
+counted c = ap (λ (k : ℕ). k + 1) (c .bits .ensures .0)
+
 returns-3 : tie.Need-returns-3
 returns-3 c =
-    let read = c .before .before .before .before .before .before .before .before .read .ensures in
-    no-seat _ _ _ (c .before .before .before .before .before .before .before .before .before .if1 .left) _ read (c .before .before .before .before .before .before .if2 .left) _ (c .before .before .members .ensures) _ (c .before .position .ensures)
+    let b = c .before .before .before .before in
+    let r = b .before .before .before in
+    let good = b .before .if2 .left in
+    no-seat _ _ _ (r .before .before .if1 .left) _ (r .read-into .ensures .0) good _ (counted b) _ _ (r .read-into .ensures .1 good) _ (c .before .before .members .ensures) _ (c .before .position .ensures)
     (c .if3 .taken)
 
-cast-new : tie.Need-cast-new
-cast-new c = omega (arith, few-read _ _ (c .before .before .before .before .before .before .before .before .read .ensures))
-
-cast-new-2 : tie.Need-cast-new-2
-cast-new-2 c = omega (arith, few-read _ _ (c .before .before .before .before .before .before .before .before .read .ensures))
-
-new-requires : tie.Need-new-requires
-new-requires c κs = search needs
-
 save-new-requires : tie.Need-save-new-requires
-save-new-requires c κs = (omega arith, file-fits _ _ (c .before .before .before .before .before .before .before .before .before .before .read .ensures) (c .before .before .before .before .before .before .before .before .if2 .left))
+save-new-requires c κs =
+    let b = c .before .before .before .before .before in
+    let r = b .before .before .before in
+    (omega arith, (file-fits _ _ (r .read-into .ensures .0) (b .before .if2 .left), few-counted _ _ (counted b)))
 
 same-length : tie.Need-same-length
 same-length c = search needs
 
 returns-4 : tie.Need-returns-4
 returns-4 c =
-    let read = c .before .before .before .before .before .before .before .before .before .before .before .before .before .read .ensures in
-    let sized = c .before .before .before .before .before .before .before .before .before .before .before .before .before .before .if1 .left in
-    let good = c .before .before .before .before .before .before .before .before .before .before .before .if2 .left in
-    let seat = c .before .before .before .before .before .before .position .ensures in
-    all-made _ _ _ sized _ read good _ (c .before .before .before .before .before .before .before .members .ensures) _ seat (c .before .before .before .before .before .if3 .left) _ _
-    (c .before .before .before .before .new .ensures)
+    let b = c .before .before .before .before .before .before .before .before in
+    let r = b .before .before .before in
+    let good = b .before .if2 .left in
+    all-made _ _ _ (r .before .before .if1 .left) _ (r .read-into .ensures .0) good _ (counted b) _ _ (r .read-into .ensures .1 good) _ (c .before .before .before .before .before .before .members .ensures) _ (c .before .before .before .before .before .position .ensures)
+    (c .before .before .before .before .if3 .left) _
     (c .before .before .save-new .ensures)
 
 pub make-spec : {M : Type 1} → statement M
@@ -59,15 +70,15 @@ make-spec =
     tie.close
     (tie.spec
     returns
-    read-requires
+    slice-aggregate-read-into
+    read-into-requires
     returns-2
+    bits-requires
+    add-n
     slice-aggregate-members
     members-requires
     position-requires
     returns-3
-    cast-new
-    cast-new-2
-    new-requires
     save-new-requires
     same-length
     returns-4)

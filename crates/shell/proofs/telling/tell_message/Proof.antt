@@ -1,7 +1,8 @@
 -- `telling::tell_message` meets its contract: five numbers stored one behind the other.
-use mathlib.Core.Path.{_≡_, refl, sym, ap, _∙_}
+use mathlib.Core.Path.{_∙_}
+use Prim.Native.Nat.{_+_, _<_}
 use native.Mathlib.Omega.{arith}
-use lib.ListN.{length}
+use lib.ListN.{length, length-set}
 use Rattle.shell.proofs.Laws.Stored.{five-stored}
 use borrow.Author.Needs.{needs}
 use Rattle.shell.proofs.telling.tell_message.Statement.{statement}
@@ -10,87 +11,102 @@ use Rattle.shell.proofs.telling.tell_message.Tie as tie
 address-of-requires : tie.Need-address-of-requires
 address-of-requires c κs = search needs
 
-mul-next : tie.Need-mul-next
-mul-next c = search needs
+mul-told : tie.Need-mul-told
+mul-told c = search needs
 
-array-write-next : tie.Need-array-write-next
-array-write-next c = search needs
+slice-write-told : tie.Need-slice-write-told
+slice-write-told c = search needs
 
-cast-next : tie.Need-cast-next
-cast-next c = search needs
+cast-told : tie.Need-cast-told
+cast-told c = search needs
 
-add-next : tie.Need-add-next
-add-next c = search needs
+add-told : tie.Need-add-told
+add-told c = search needs
 
-mul-next-2 : tie.Need-mul-next-2
-mul-next-2 c = search needs
+mul-told-2 : tie.Need-mul-told-2
+mul-told-2 c = search needs
 
-array-write-next-2 : tie.Need-array-write-next-2
-array-write-next-2 c = search needs
+slice-write-told-2 : tie.Need-slice-write-told-2
+slice-write-told-2 c =
+    let a = c .before .before .before .before .args in
+    let h : a .at + 1 < length (a .told .now) = omega arith in
+    simp length-set h
 
-cast-next-2 : tie.Need-cast-next-2
-cast-next-2 c = search needs
+cast-told-2 : tie.Need-cast-told-2
+cast-told-2 c = search needs
 
-add-next-2 : tie.Need-add-next-2
-add-next-2 c = search needs
+add-told-2 : tie.Need-add-told-2
+add-told-2 c = search needs
 
-mul-next-3 : tie.Need-mul-next-3
-mul-next-3 c = search needs
+mul-told-3 : tie.Need-mul-told-3
+mul-told-3 c = search needs
 
-array-write-next-3 : tie.Need-array-write-next-3
-array-write-next-3 c = search needs
+slice-write-told-3 : tie.Need-slice-write-told-3
+slice-write-told-3 c =
+    let a = c .before .before .before .before .before .args in
+    let h : a .at + 2 < length (a .told .now) = omega arith in
+    simp length-set h
 
-cast-next-3 : tie.Need-cast-next-3
-cast-next-3 c = search needs
+cast-told-3 : tie.Need-cast-told-3
+cast-told-3 c = search needs
 
-add-next-3 : tie.Need-add-next-3
-add-next-3 c = search needs
+add-told-3 : tie.Need-add-told-3
+add-told-3 c = search needs
 
-mul-next-4 : tie.Need-mul-next-4
-mul-next-4 c = search needs
+mul-told-4 : tie.Need-mul-told-4
+mul-told-4 c = search needs
 
-array-write-next-4 : tie.Need-array-write-next-4
-array-write-next-4 c = search needs
+slice-write-told-4 : tie.Need-slice-write-told-4
+slice-write-told-4 c =
+    let a = c .before .before .before .before .before .before .args in
+    let h : a .at + 3 < length (a .told .now) = omega arith in
+    simp length-set h
 
-cast-next-4 : tie.Need-cast-next-4
-cast-next-4 c = search needs
+cast-told-4 : tie.Need-cast-told-4
+cast-told-4 c = search needs
 
-add-next-4 : tie.Need-add-next-4
-add-next-4 c = search needs
+add-told-4 : tie.Need-add-told-4
+add-told-4 c = search needs
 
-mul-next-5 : tie.Need-mul-next-5
-mul-next-5 c = search needs
+mul-told-5 : tie.Need-mul-told-5
+mul-told-5 c = search needs
 
-array-write-next-5 : tie.Need-array-write-next-5
-array-write-next-5 c = search needs
+slice-write-told-5 : tie.Need-slice-write-told-5
+slice-write-told-5 c =
+    let a = c .before .before .before .before .before .before .before .args in
+    let h : a .at + 4 < length (a .told .now) = omega arith in
+    simp length-set h
+
+same-length : tie.Need-same-length
+same-length c = search needs
 
 returns : tie.Need-returns
 returns c =
-    let a = c .before .before .before .before .before .before .args in
-    let h : length (a .told) ≡ 84 = search needs in
-    five-stored (a .told) (a .at) _ _ _ _ _ (omega (arith, h, c .before .before .before .before .before .before .pre)) ∙ rw (c .before .before .before .before .address-of .ensures)
+    let a = c .before .before .before .before .before .before .before .args in
+    five-stored (a .told .now) (a .at) _ _ _ _ _ (c .before .before .before .before .before .before .before .pre) ∙ rw (c .before .before .before .before .address-of .ensures)
 
 pub tell-message-spec : {M : Type 1} → statement M
 tell-message-spec =
     tie.close
     (tie.spec
     address-of-requires
-    mul-next
-    array-write-next
-    cast-next
-    add-next
-    mul-next-2
-    array-write-next-2
-    cast-next-2
-    add-next-2
-    mul-next-3
-    array-write-next-3
-    cast-next-3
-    add-next-3
-    mul-next-4
-    array-write-next-4
-    cast-next-4
-    add-next-4
-    mul-next-5
-    array-write-next-5
+    mul-told
+    slice-write-told
+    cast-told
+    add-told
+    mul-told-2
+    slice-write-told-2
+    cast-told-2
+    add-told-2
+    mul-told-3
+    slice-write-told-3
+    cast-told-3
+    add-told-3
+    mul-told-4
+    slice-write-told-4
+    cast-told-4
+    add-told-4
+    mul-told-5
+    slice-write-told-5
+    same-length
     returns)
