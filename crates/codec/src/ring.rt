@@ -4,7 +4,8 @@ ghost use mathlib.Core.Bool.{true};
 ghost use mathlib.Core.List.{_++_};
 ghost use Prim.Native.Nat.{_+_, _*_, _≤_, _<_, _^_};
 ghost use lib.ListN.{length, take, drop, getD};
-ghost use Rattle.codec.specs.Ring.{badAddress, position, isMember, headRefusal, addressesOf, addressRefusal, addressesRefusal, readRing, noRing, filled};
+ghost use Rattle.codec.specs.Octets.{laid};
+ghost use Rattle.codec.specs.Ring.{badAddress, position, isMember, headRefusal, addressesOf, addressRefusal, addressesRefusal, count, ringRefusal, readRing, noRing};
 use crate::bits::bits;
 
 // A ring by value: how many members, the retry limit, the members' addresses in ring order and then zeros.
@@ -143,18 +144,30 @@ pub fn head_refusal(file: &[u8]) -> u32
     0
 }
 
-// The addresses that a file holds, and then zeros.
-pub fn addresses_of(file: &[u8], n: usize) -> [u64; 64]
-    requires { ⌜ (n ≤ 64) × (16 + n * 48 ≤ length (now file) * 8) ⌝ }
-    ensures { λ r. ⌜ r ≡ filled (addressesOf (now (file .entry)) n) ⌝ }
+// Lays the addresses that a file holds over the start of an array.
+pub fn addresses_into(file: &[u8], n: usize, addresses: &mut [u64])
+    requires { ⌜ (n ≤ 64) × (n ≤ length (now addresses)) × (16 + n * 48 ≤ length (now file) * 8) ⌝ }
+    ensures { λ _. ⌜ now (addresses .exit) ≡ laid (now (addresses .entry)) 0 (addressesOf (now (file .entry)) n) ⌝ }
 {
-    let mut addresses = [0u64; 64];
     let mut i = 0;
     while i < n {
         addresses[i] = bits(file, 16 + i * 48, 48);
         i += 1;
     }
-    addresses
+}
+
+// Reads a ring file's addresses over the start of an array: every check in the page's order.
+pub fn read_into(file: &[u8], addresses: &mut [u64]) -> u32
+    requires { ⌜ 64 ≤ length (now addresses) ⌝ }
+    ensures { λ r. ⌜ (r ≡ ringRefusal (now (file .entry))) × (r ≡ 0 → now (addresses .exit) ≡ laid (now (addresses .entry)) 0 (addressesOf (now (file .entry)) (count (now (file .entry))))) ⌝ }
+{
+    let early = head_refusal(file);
+    if early != 0 {
+        return early;
+    }
+    let n = bits(file, 4, 6) as usize + 1;
+    addresses_into(file, n, addresses);
+    addresses_refusal(members(addresses, n))
 }
 
 pub fn no_ring(number: u32) -> RingRead
@@ -170,20 +183,16 @@ pub fn no_ring(number: u32) -> RingRead
     }
 }
 
-// Reads a ring file: every check in the page's order, then the ring.
+// Reads a ring file: the checks, then the ring.
 pub fn read(file: &[u8]) -> RingRead
     ensures { λ r. ⌜ r ≡ readRing (now (file .entry)) ⌝ }
 {
-    let early = head_refusal(file);
-    if early != 0 {
-        return no_ring(early);
-    }
-    let n = bits(file, 4, 6) as usize + 1;
-    let addresses = addresses_of(file, n);
-    let number = addresses_refusal(members(&addresses, n));
+    let mut addresses = [0u64; 64];
+    let number = read_into(file, &mut addresses);
     if number != 0 {
         return no_ring(number);
     }
+    let n = bits(file, 4, 6) as usize + 1;
     let limit = bits(file, 10, 4) as u8;
     RingRead {
         number: 0,

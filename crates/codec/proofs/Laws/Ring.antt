@@ -3,18 +3,19 @@ use mathlib.Core.Path.{_≡_, refl, sym, ap, _∙_}
 use mathlib.Core.Bool.{Bool, true, false, cond}
 use mathlib.Core.List.{List, [], _∷_, _++_}
 use Prim.Native.Nat.{ℕ, zero, suc, _+_, _-_, _*_, _<_, _≤_, zero-le}
-use native.Mathlib.Numerals.{add-one}
+use native.Mathlib.Numerals.{add-one, unary-clauses}
 use native.Mathlib.Omega.{arith}
 use borrow.Author.Tests.{ltb-false, eqb-true, eqb-false, not-false, ne-eqb}
 use lib.Dec.{eqb}
 use lib.ListN.{length, take, drop, getD, set, replicate, length-append, drop-of-length-le}
 use lib.Seq.{take-suc, drop-cons, set-at, take-at, append-snoc}
 use Rattle.codec.specs.Order.{firstOf}
-use Rattle.codec.specs.Octets.{zeros}
+use Rattle.codec.specs.Octets.{laid, zeros}
 use Rattle.codec.specs.Bits.{bits}
 use Rattle.codec.specs.Ring.{form, others, count, limit, zeroBits, addressesOf, headTests, addressTests, addressesTests, headRefusal, addressRefusal, addressesRefusal, ringRefusal, filled, ringOf, noRing, readRing}
 use Rattle.codec.specs.declared.ring.RingRead.{RingRead}
 use Rattle.codec.proofs.Laws.Bits.{bits-below}
+use Rattle.codec.proofs.Laws.Octets.{laid-behind, laid-start}
 use Rattle.codec.proofs.Laws.Order.{Apart, first-append, none-gives, none-holds, first-passed, first-none, first-some}
 
 -- ---- the addresses one after the other
@@ -47,16 +48,32 @@ unfolding addressesOf
 length-addresses file zero = refl
 length-addresses file (suc n) = length-append (addressesOf file n) (bits file (16 + n * 48) 48 ∷ []) ∙ ap (λ (k : ℕ). k + 1) (length-addresses file n) ∙ add-one n
 
--- one address more, stored over a zero
-pub addresses-stored : (file : List ℕ) (i : ℕ) → i < 64 → set (filled (addressesOf file i)) i (bits file (16 + i * 48) 48) ≡ filled (addressesOf file (i + 1))
+-- one address more behind those that are laid over
+pub addresses-more-laid : (file l l₁ : List ℕ) (i : ℕ) → i < length l → l₁ ≡ laid l 0 (addressesOf file i)
+    → set l₁ i (bits file (16 + i * 48) 48) ≡ laid l 0 (addressesOf file (i + 1))
 unfolding addressesOf
-addresses-stored file i h =
-    let long : length (addressesOf file i) ≡ i = length-addresses file i in
-    let e : 64 - i ≡ suc (64 - (i + 1)) = omega arith in
-    let f : length (addressesOf file (i + 1)) ≡ i + 1 = length-addresses file (i + 1) in
-    rw (long, e, f, add-one i)
-    (set-at (addressesOf file i) 0 (replicate (64 - suc i) 0) (bits file (16 + i * 48) 48) i long
-    ∙ sym (append-snoc (addressesOf file i) (bits file (16 + i * 48) 48) (replicate (64 - suc i) 0)))
+addresses-more-laid file l l₁ i h e =
+    let here : 0 + length (addressesOf file i) ≡ i = omega (arith, length-addresses file i) in
+    ap (λ (o : List ℕ). set o i (bits file (16 + i * 48) 48)) e
+    ∙ ap (λ (n : ℕ). set (laid l 0 (addressesOf file i)) n (bits file (16 + i * 48) 48)) (sym here)
+    ∙ laid-behind l (addressesOf file i) 0 (bits file (16 + i * 48) 48) (rw here h)
+    ∙ rw (add-one i)
+
+drop-zeros : (k n : ℕ) → drop k (zeros n) ≡ zeros (n - k)
+drop-zeros zero n = simp unary-clauses refl
+drop-zeros (suc k) zero = let z : 0 - suc k ≡ 0 = omega arith in ap zeros (sym z)
+drop-zeros (suc k) (suc n) = simp unary-clauses (drop-zeros k n)
+
+-- over zeros they fill the array
+pub laid-filled : (members : List ℕ) → laid (zeros 64) 0 members ≡ filled members
+laid-filled members =
+    let here : 0 + length members ≡ length members = omega arith in
+    rw here (ap (λ (l : List ℕ). members ++ l) (drop-zeros (length members) 64))
+
+-- the start of an array that a file's addresses are laid over
+pub members-laid : (file l l₁ : List ℕ) (n : ℕ) → l₁ ≡ laid l 0 (addressesOf file n) → take n l₁ ≡ addressesOf file n
+members-laid file l l₁ n e =
+    ap (λ (k : ℕ). take k l₁) (sym (length-addresses file n)) ∙ laid-start l l₁ (addressesOf file n) e
 
 pub members-filled : (members : List ℕ) (n : ℕ) → length members ≡ n → take n (filled members) ≡ members
 members-filled members n e = take-at members (zeros (64 - length members)) n e
@@ -110,11 +127,10 @@ unfolding readRing
 read-good file e = rw (e)
 
 -- what the code reads, step by step, has the file's refusal
-pub read-steps : (file : List ℕ) (n number : ℕ) (addresses ms : List ℕ) → headRefusal file ≡ 0 → n ≡ count file
-    → addresses ≡ filled (addressesOf file n) → ms ≡ take n addresses → number ≡ addressesRefusal ms → ringRefusal file ≡ number
-read-steps file n number addresses ms h en ea em er =
-    let m : ms ≡ addressesOf file n = em ∙ ap (take n) ea ∙ members-filled (addressesOf file n) n (length-addresses file n) in
-    refused-late file h ∙ cc (m, en, er)
+pub read-steps : (file l : List ℕ) (n number : ℕ) (addresses : List ℕ) → headRefusal file ≡ 0 → n ≡ count file
+    → addresses ≡ laid l 0 (addressesOf file n) → number ≡ addressesRefusal (take n addresses) → number ≡ ringRefusal file
+read-steps file l n number addresses h en ea er =
+    er ∙ ap addressesRefusal (members-laid file l addresses n ea) ∙ ap (λ (k : ℕ). addressesRefusal (addressesOf file k)) en ∙ sym (refused-late file h)
 
 -- whatever is read, there are at most 64 members
 pub few-members : (file : List ℕ) → readRing file .ring .n ≤ 64

@@ -1,26 +1,23 @@
--- `ring::read` meets its contract: a head that passes says what the calls require, and the refusals are those of the one order.
+-- `ring::read` meets its contract: a file without a refusal is read over zeros, which gives its addresses and then zeros.
 use mathlib.Core.Path.{_≡_, refl, sym, ap, _∙_}
 use Prim.Native.Nat.{ℕ, _+_, _*_, _^_, _<_, _≤_}
 use native.Mathlib.Omega.{arith}
 use borrow.Author.Needs.{needs}
-use borrow.Author.Tests.{eq-eqb, ne-eqb}
-use lib.ListN.{length, take}
-use Rattle.codec.specs.Ring.{others, count, addressesOf, ringRefusal, filled, ringOf}
-use Rattle.codec.proofs.Laws.Bits.{bits-below}
-use Rattle.codec.proofs.Laws.Ring.{HeadGood, head-good, refused-early, read-refused, read-good, read-steps}
+use Rattle.codec.specs.Ring.{count, addressesOf, ringRefusal, filled, ringOf}
+use Rattle.codec.proofs.Laws.Ring.{HeadGood, head-good, head-passed, laid-filled, read-refused, read-good}
 use Rattle.codec.proofs.ring.read.Statement.{statement}
 use Rattle.codec.proofs.ring.read.Tie as tie
 use Rattle.codec.proofs.ring.read.Reads as reads
 use Rattle.codec.proofs.ring.read.Lts as lts
 use Rattle.codec.proofs.bits.bits.Reads as bits-reads
-use Rattle.codec.proofs.ring.addresses_of.Reads as addresses-of-reads
-use Rattle.codec.proofs.ring.addresses_refusal.Reads as addresses-refusal-reads
-use Rattle.codec.proofs.ring.head_refusal.Reads as head-refusal-reads
-use Rattle.codec.proofs.ring.members.Reads as members-reads
 use Rattle.codec.proofs.ring.no_ring.Reads as no-ring-reads
+use Rattle.codec.proofs.ring.read_into.Reads as read-into-reads
 
-head-refusal-requires : tie.Need-head-refusal-requires
-head-refusal-requires c κs = search needs
+slice-aggregate-read-into : tie.Need-slice-aggregate-read-into
+slice-aggregate-read-into c = search needs
+
+read-into-requires : tie.Need-read-into-requires
+read-into-requires c κs = search needs
 
 no-ring-requires : tie.Need-no-ring-requires
 no-ring-requires c κs = search needs
@@ -28,12 +25,14 @@ no-ring-requires c κs = search needs
 returns : tie.Need-returns
 returns c =
     let t = c .before in
-    let file = t .before .before .before .args .file .now in
-    let h = t .before .head-refusal in
-    c .no-ring .ensures ∙ sym (read-refused file (h .result) (refused-early file (λ e. t .if1 .taken (h .ensures ∙ e)) ∙ sym (h .ensures)) (t .if1 .taken))
+    let r = t .before .before .read-into in
+    c .no-ring .ensures ∙ sym (read-refused _ (r .result) (sym (r .ensures .0)) (t .if1 .taken))
 
-good : (c : tie.Else1) → HeadGood (c .before .before .before .args .file .now)
-good c = head-good _ (sym (c .before .head-refusal .ensures) ∙ c .if1 .left)
+passed : (c : tie.Else1) → ringRefusal (c .before .before .before .before .before .args .file .now) ≡ 0
+passed c = sym (c .before .before .read-into .ensures .0) ∙ c .if1 .left
+
+good : (c : tie.Else1) → HeadGood (c .before .before .before .before .before .args .file .now)
+good c = head-good _ (head-passed _ (passed c))
 
 bits-requires : tie.Need-bits-requires
 bits-requires c κs = omega (arith, good c)
@@ -41,76 +40,33 @@ bits-requires c κs = omega (arith, good c)
 add-n : tie.Need-add-n
 add-n c = search needs
 
-addresses-of-requires : tie.Need-addresses-of-requires
-addresses-of-requires c κs =
-    let file = c .before .before .before .before .args .file .now in
-    let e : c .bits .result ≡ others file = c .bits .ensures .0 in
-    omega (arith, good (c .before), e, bits-below file 4 6)
-
-slice-aggregate-members : tie.Need-slice-aggregate-members
-slice-aggregate-members c = search needs
-
-members-requires : tie.Need-members-requires
-members-requires c κs = search needs
-
-addresses-refusal-requires : tie.Need-addresses-refusal-requires
-addresses-refusal-requires c κs = search needs
-
-no-ring-requires-2 : tie.Need-no-ring-requires-2
-no-ring-requires-2 c κs = search needs
-
--- what the addresses' refusal is of the file
-late : (c : tie.After-addresses-refusal) → ringRefusal (c .before .before .before .before .before .before .before .before .args .file .now) ≡ c .addresses-refusal .result
-late c =
-    let m = c .before in
-    let a = m .before .before in
-    let b = a .before in
-    let e = b .before in
-    let file = e .before .before .before .args .file .now in
-    read-steps file (b .bits .result + 1) (c .addresses-refusal .result) (a .addresses-of .result) (m .members .result .now)
-    (sym (e .before .head-refusal .ensures) ∙ e .if1 .left)
-    (ap (λ (n : ℕ). n + 1) (b .bits .ensures .0))
-    (a .addresses-of .ensures)
-    (m .members .ensures)
-    (c .addresses-refusal .ensures)
-
-returns-2 : tie.Need-returns-2
-returns-2 c =
-    let t = c .before in
-    c .no-ring2 .ensures ∙ sym (read-refused _ (t .before .addresses-refusal .result) (late (t .before)) (t .if2 .taken))
-
 bits-requires-2 : tie.Need-bits-requires-2
-bits-requires-2 c κs = omega (arith, good (c .before .before .before .before .before .before))
+bits-requires-2 c κs = omega (arith, good (c .before))
 
 cast-limit : tie.Need-cast-limit
 cast-limit c = search needs
 
-returns-3 : tie.Need-returns-3
+returns-2 : tie.Need-returns-2
 unfolding ringOf
-returns-3 c =
-    let e = c .before in
-    let a = e .before .before .before .before in
-    let b = a .before in
-    let file = b .before .before .before .before .args .file .now in
+returns-2 c =
+    let b = c .before in
+    let e = b .before in
+    let r = e .before .before .read-into in
+    let file = e .before .before .before .before .before .args .file .now in
     let n : b .bits .result + 1 ≡ count file = ap (λ (k : ℕ). k + 1) (b .bits .ensures .0) in
-    let same : a .addresses-of .result ≡ filled (addressesOf file (count file)) = a .addresses-of .ensures ∙ ap (λ (k : ℕ). filled (addressesOf file k)) n in
-    rw (n, same, c .bits2 .ensures .0) (sym (read-good file (late (e .before) ∙ e .if2 .left)))
+    let same : r .last .1 .0 ≡ filled (addressesOf file (count file)) = r .ensures .1 (e .if1 .left) ∙ laid-filled (addressesOf file (count file)) in
+    rw (n, same, c .bits2 .ensures .0) (sym (read-good file (passed e)))
 
 pub read-spec : {M : Type 1} → statement M
 read-spec =
     tie.close
     (tie.spec
-    head-refusal-requires
+    slice-aggregate-read-into
+    read-into-requires
     no-ring-requires
     returns
     bits-requires
     add-n
-    addresses-of-requires
-    slice-aggregate-members
-    members-requires
-    addresses-refusal-requires
-    no-ring-requires-2
-    returns-2
     bits-requires-2
     cast-limit
-    returns-3)
+    returns-2)

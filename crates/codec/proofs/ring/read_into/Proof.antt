@@ -1,0 +1,80 @@
+-- `ring::read_into` meets its contract: a head that passes says what the calls require, and the refusals are those of the one order.
+use mathlib.Core.Path.{_≡_, refl, sym, ap, _∙_}
+use Prim.Native.Nat.{ℕ, _+_, _*_, _^_, _<_, _≤_}
+use native.Mathlib.Omega.{arith}
+use borrow.Author.Needs.{needs}
+use Rattle.codec.specs.Octets.{laid}
+use Rattle.codec.specs.Ring.{others, count, addressesOf, addressesRefusal}
+use Rattle.codec.proofs.Laws.Bits.{bits-below}
+use Rattle.codec.proofs.Laws.Ring.{HeadGood, head-good, refused-early, read-steps}
+use Rattle.codec.proofs.ring.read_into.Statement.{statement}
+use Rattle.codec.proofs.ring.read_into.Tie as tie
+use Rattle.codec.proofs.ring.read_into.Reads as reads
+use Rattle.codec.proofs.ring.read_into.Lts as lts
+use Rattle.codec.proofs.bits.bits.Reads as bits-reads
+use Rattle.codec.proofs.ring.addresses_into.Reads as addresses-into-reads
+use Rattle.codec.proofs.ring.addresses_refusal.Reads as addresses-refusal-reads
+use Rattle.codec.proofs.ring.head_refusal.Reads as head-refusal-reads
+use Rattle.codec.proofs.ring.members.Reads as members-reads
+
+head-refusal-requires : tie.Need-head-refusal-requires
+head-refusal-requires c κs = search needs
+
+returns : tie.Need-returns
+returns c =
+    let h = c .before .head-refusal in
+    (h .ensures ∙ sym (refused-early _ (λ e. c .if1 .taken (h .ensures ∙ e))), λ z. absurd (c .if1 .taken z))
+
+good : (c : tie.Else1) → HeadGood (c .before .before .before .before .args .file .now)
+good c = head-good _ (sym (c .before .head-refusal .ensures) ∙ c .if1 .left)
+
+bits-requires : tie.Need-bits-requires
+bits-requires c κs = omega (arith, good c)
+
+add-n : tie.Need-add-n
+add-n c = search needs
+
+addresses-into-requires : tie.Need-addresses-into-requires
+addresses-into-requires c κs =
+    let file = c .before .before .before .before .before .before .args .file .now in
+    let e : c .before .bits .result ≡ others file = c .before .bits .ensures .0 in
+    omega (arith, good (c .before .before), e, bits-below file 4 6)
+
+members-requires : tie.Need-members-requires
+members-requires c κs = search needs
+
+addresses-refusal-requires : tie.Need-addresses-refusal-requires
+addresses-refusal-requires c κs = search needs
+
+same-length : tie.Need-same-length
+same-length c = search needs
+
+returns-2 : tie.Need-returns-2
+returns-2 c =
+    let m = c .before in
+    let a = c .before .before .before .before .before in
+    let b = a .before .before in
+    let file = b .before .before .before .before .before .args .file .now in
+    let l = b .before .before .before .before .before .args .addresses .now in
+    let n : b .bits .result + 1 ≡ count file = ap (λ (k : ℕ). k + 1) (b .bits .ensures .0) in (
+      read-steps file l (b .bits .result + 1) (c .addresses-refusal .result) (a .addresses-into .last .1 .1 .0)
+      (sym (b .before .before .head-refusal .ensures) ∙ b .before .if1 .left)
+      n
+      (a .addresses-into .ensures)
+      (c .addresses-refusal .ensures ∙ ap addressesRefusal (m .members .ensures)),
+      λ z. a .addresses-into .ensures ∙ ap (λ (k : ℕ). laid l 0 (addressesOf file k)) n,
+    )
+
+pub read-into-spec : {M : Type 1} → statement M
+read-into-spec =
+    tie.close
+    (tie.spec
+    head-refusal-requires
+    returns
+    bits-requires
+    add-n
+    addresses-into-requires
+    members-requires
+    addresses-refusal-requires
+    same-length
+    returns-2)
