@@ -16,7 +16,6 @@ use Rattle.wholeness.specs.Whole.{whole}
 use Rattle.station.specs.declared.station.Station.{Station}
 use Rattle.records.specs.Layout.{ringRoom, ownAt, lostAt, givenUpAt, liveAt, sendsAt, receivesAt, recordLength}
 use Rattle.records.specs.Fields.{turnAt, turnGood, turnOctets, liveFrom, flagsGood, liveOctets, messagesAt, messagesOctets}
-use Rattle.records.specs.declared.record.Loaded.{Loaded}
 
 -- ---- the octets
 
@@ -73,6 +72,20 @@ stationOf s = stationFrom s (ringFrom s .ring .n) (ringFrom s .ring .limit)
 -- every octet is one that writing the station gives
 unfoldable pub fieldsGood : List ℕ → Bool
 fieldsGood s = allOf (padGood s ∷ turnGood s ∷ flagsGood s liveAt 64 ∷ [])
+
+-- the ring of a record whose octets are good, whatever its station; without members where they are not
+unfoldable pub goodRing : List ℕ → Ring
+goodRing s =
+    firstOf (ringFrom s .ring)
+    ((not (eqb (length s) recordLength), noRing 0 .ring)
+    ∷ (not (fieldsGood s), noRing 0 .ring)
+    ∷ [])
+
+-- what reading a record gives: the station and its ring, or that the record is not whole
+pub record Loaded : Type 0 where
+  pub ok : Bool
+  pub ring : Ring
+  pub station : Station
 
 -- no station
 abbrev pub notWhole : Loaded

@@ -2,8 +2,9 @@
 ghost use mathlib.Core.Path.{_≡_};
 ghost use mathlib.Core.List.{_++_};
 ghost use Prim.Native.Nat.{_+_, _≤_};
-ghost use lib.ListN.{length};
+ghost use lib.ListN.{length, take};
 ghost use Rattle.codec.specs.Octets.{laid};
+ghost use Rattle.codec.specs.Ring.{limit};
 ghost use Rattle.station.specs.Stations.{made};
 ghost use Rattle.records.specs.Layout.{ownAt, sendsAt, recordLength, ringRoom};
 ghost use Rattle.records.specs.Fields.{turnOctets, liveOctets, messagesOctets};
@@ -14,12 +15,10 @@ ghost use Rattle.records.specs.Record.{
   ringOctets,
   recordOctets,
   fileLength,
-  ringFrom,
   padGood,
   stationFrom,
   fieldsGood,
-  notWhole,
-  readRecord,
+  goodRing,
 };
 use crate::fields::put_two;
 use crate::layout::GIVEN_UP;
@@ -41,19 +40,10 @@ use codec::octets::clear;
 use codec::octets::copy;
 use codec::octets::get;
 use codec::octets::nonzero;
-use codec::ring::Ring;
-use codec::ring::RingRead;
 use parts::list::Messages;
 use parts::live::Live;
 use station::station::Station;
 use station::station::Turn;
-
-// What reading a record gives: the station and its ring, or that the record is not whole.
-pub struct Loaded {
-    pub ok: bool,
-    pub ring: Ring,
-    pub station: Station,
-}
 
 // How long the ring file is, by its own N.
 pub fn file_length(s: &[u8]) -> usize
@@ -62,14 +52,6 @@ pub fn file_length(s: &[u8]) -> usize
 {
     let more = codec::bits::bits(s, 4, 6) as usize;
     2 + 6 * (more + 1)
-}
-
-pub fn ring_from(s: &[u8]) -> RingRead
-    requires { ⌜ recordLength ≤ length (now s) ⌝ }
-    ensures { λ r. ⌜ r ≡ ringFrom (now (s .entry)) ⌝ }
-{
-    let n = file_length(s);
-    codec::ring::read(&s[..n])
 }
 
 // Whether only zeros follow the ring file.
@@ -95,18 +77,37 @@ pub fn fields_good(s: &[u8]) -> bool
     flags_good(s)
 }
 
-// The station that the fields give, of a ring of `n` with the retry limit `limit`.
-pub fn station_from(s: &[u8], n: u8, limit: u8) -> Station
-    requires { ⌜ recordLength ≤ length (now s) ⌝ }
-    ensures { λ r. ⌜ r ≡ stationFrom (now (s .entry)) n limit ⌝ }
+// Reads the ring of a record over the start of an array and gives how many members it has: 0 where an
+// octet of the record is not good.
+pub fn ring_into(s: &[u8], addresses: &mut [u64]) -> usize
+    requires { ⌜ 64 ≤ length (now addresses) ⌝ }
+    ensures { λ r. ⌜ (r ≡ goodRing (now (s .entry)) .n) × (take r (now (addresses .exit)) ≡ take r (goodRing (now (s .entry)) .addresses)) ⌝ }
+{
+    if s.len() != RECORD {
+        return 0;
+    }
+    let end = file_length(s);
+    if codec::ring::read_into(&s[..end], addresses) != 0 {
+        return 0;
+    }
+    if !fields_good(s) {
+        return 0;
+    }
+    (end - 2) / 6
+}
+
+// The station that the fields give, of a ring of `n`.
+pub fn station_from(s: &[u8], n: usize) -> Station
+    requires { ⌜ (recordLength ≤ length (now s)) × (n ≤ 64) ⌝ }
+    ensures { λ r. ⌜ r ≡ stationFrom (now (s .entry)) n (limit (now (s .entry))) ⌝ }
 {
     let live = live_from(s);
     let sends = messages_at(s, SENDS);
     let receives = messages_at(s, RECEIVES);
     let turn = turn_at(s);
     Station {
-        n,
-        limit,
+        n: n as u8,
+        limit: codec::bits::bits(s, 10, 4) as u8,
         own: get(s, OWN, 1) as u8,
         live,
         sends,
@@ -114,45 +115,6 @@ pub fn station_from(s: &[u8], n: u8, limit: u8) -> Station
         turn,
         lost: get(s, LOST, 4) as u32,
         givenup: get(s, GIVEN_UP, 4) as u32,
-    }
-}
-
-pub fn not_whole() -> Loaded
-    ensures { λ r. ⌜ r ≡ notWhole ⌝ }
-{
-    let none = codec::ring::no_ring(0);
-    let ring = none.ring;
-    let station = Station::new(0, 0, 0);
-    Loaded {
-        ok: false,
-        ring,
-        station,
-    }
-}
-
-// Reads a record.
-pub fn load(s: &[u8]) -> Loaded
-    ensures { λ r. ⌜ r ≡ readRecord (now (s .entry)) ⌝ }
-{
-    if s.len() != RECORD {
-        return not_whole();
-    }
-    let read = ring_from(s);
-    if read.number != 0 {
-        return not_whole();
-    }
-    if !fields_good(s) {
-        return not_whole();
-    }
-    let ring = read.ring;
-    let station = station_from(s, ring.n as u8, ring.limit);
-    if !wholeness::whole::is_whole(station) {
-        return not_whole();
-    }
-    Loaded {
-        ok: true,
-        ring,
-        station,
     }
 }
 

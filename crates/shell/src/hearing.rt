@@ -14,10 +14,12 @@ use packet_codec::packet::Packet;
 use packet_codec::reading::Read;
 use packet_codec::reading::read_packet;
 use parts::moves::Event;
-use records::record::load;
+use records::record::ring_into;
+use records::record::station_from;
 use station::station::Answer;
 use station::station::Payload;
 use station::station::Station;
+use wholeness::whole::is_whole;
 
 // The information of a heard frame whose message is stored.
 pub fn heard_information(packet: &[u8], p: Payload) -> &[u8]
@@ -74,14 +76,15 @@ pub fn frame(
     if bad_buffers(store.len(), out.len()) {
         return 9;
     }
-    let l = load(rec);
-    if !l.ok {
+    let mut addresses = [0u64; 64];
+    let n = ring_into(rec, &mut addresses);
+    if n == 0 {
         return 35;
     }
-    let s = l.station;
-    let ring = l.ring;
-    let addresses = ring.addresses;
-    let n = ring.n;
+    let s = station_from(rec, n);
+    if !is_whole(s) {
+        return 35;
+    }
     let a = hear_packet(s, members(&addresses, n), from, to, packet);
     if a.number != 0 {
         return a.number;

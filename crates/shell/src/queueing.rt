@@ -3,8 +3,10 @@ ghost use Rattle.shell.specs.Calls.{Queueing};
 use crate::places::put_queued;
 use codec::ring::members;
 use records::layout::STORE;
-use records::record::load;
+use records::record::ring_into;
 use records::record::save;
+use records::record::station_from;
+use wholeness::whole::is_whole;
 
 // A message is handed over.
 pub fn queue(
@@ -20,14 +22,15 @@ pub fn queue(
     if store.len() != STORE {
         return 9;
     }
-    let l = load(rec);
-    if !l.ok {
+    let mut addresses = [0u64; 64];
+    let n = ring_into(rec, &mut addresses);
+    if n == 0 {
         return 35;
     }
-    let s = l.station;
-    let ring = l.ring;
-    let addresses = ring.addresses;
-    let n = ring.n;
+    let s = station_from(rec, n);
+    if !is_whole(s) {
+        return 35;
+    }
     let p = codec::ring::position(members(&addresses, n), to);
     let a = s.queue(p, priority, channel, payload.len());
     if a.number != 0 {

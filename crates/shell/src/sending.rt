@@ -13,9 +13,11 @@ use crate::telling::tell;
 use codec::ring::members;
 use packet_codec::packet::Packet;
 use records::layout::STORE;
-use records::record::load;
+use records::record::ring_into;
 use records::record::save;
+use records::record::station_from;
 use station::station::Answer;
+use wholeness::whole::is_whole;
 
 // Writes what an answer of 0 leaves: the frame, the station, and what is told.
 pub fn settle(
@@ -55,18 +57,19 @@ pub fn start(rec: &mut [u8], out: &mut [u8], told: &mut [u64; 84]) -> u32
     if out.len() < Packet::LONGEST {
         return 9;
     }
-    let l = load(rec);
-    if !l.ok {
+    let mut addresses = [0u64; 64];
+    let n = ring_into(rec, &mut addresses);
+    if n == 0 {
         return 35;
     }
-    let s = l.station;
+    let s = station_from(rec, n);
+    if !is_whole(s) {
+        return 35;
+    }
     let a = s.start();
     if a.number != 0 {
         return a.number;
     }
-    let ring = l.ring;
-    let addresses = ring.addresses;
-    let n = ring.n;
     settle(rec, out, told, members(&addresses, n), b"", a);
     0
 }
@@ -78,19 +81,20 @@ pub fn timer(rec: &mut [u8], store: &[u8], out: &mut [u8], told: &mut [u64; 84])
     if bad_buffers(store.len(), out.len()) {
         return 9;
     }
-    let l = load(rec);
-    if !l.ok {
+    let mut addresses = [0u64; 64];
+    let n = ring_into(rec, &mut addresses);
+    if n == 0 {
         return 35;
     }
-    let s = l.station;
+    let s = station_from(rec, n);
+    if !is_whole(s) {
+        return 35;
+    }
     let a = s.timer();
     if a.number != 0 {
         return a.number;
     }
     let sent = a.sent;
-    let ring = l.ring;
-    let addresses = ring.addresses;
-    let n = ring.n;
     settle(
         rec,
         out,

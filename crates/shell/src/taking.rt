@@ -6,8 +6,10 @@ use crate::telling::tell_taken;
 use codec::octets::copy;
 use codec::ring::members;
 use records::layout::STORE;
-use records::record::load;
+use records::record::ring_into;
 use records::record::save;
+use records::record::station_from;
+use wholeness::whole::is_whole;
 
 // Lays a taken payload over the start of take's room, where it fits.
 pub fn lay_taken(room: &mut [u8], part: &[u8])
@@ -32,18 +34,19 @@ pub fn take(
     if store.len() != STORE {
         return 9;
     }
-    let l = load(rec);
-    if !l.ok {
+    let mut addresses = [0u64; 64];
+    let n = ring_into(rec, &mut addresses);
+    if n == 0 {
         return 35;
     }
-    let s = l.station;
+    let s = station_from(rec, n);
+    if !is_whole(s) {
+        return 35;
+    }
     let a = s.take(channel, room.len());
     if a.number != 0 {
         return a.number;
     }
-    let ring = l.ring;
-    let addresses = ring.addresses;
-    let n = ring.n;
     let station = a.station;
     let payload = a.payload;
     lay_taken(room, taken_part(store, payload));

@@ -10,25 +10,14 @@ use lib.Dec.{eqb}
 use lib.ListN.{length, take, drop, getD, List·getD-append}
 use lib.Seq.{take-append-le, take-at, drop-cons, getD-append-add}
 use Rattle.codec.specs.Octets.{zeros, firstNonzero}
-use Rattle.codec.specs.Bits.{bits}
-use Rattle.codec.specs.Ring.{count, readRing}
-use Rattle.codec.proofs.Laws.Bits.{bits-below}
+use Rattle.codec.specs.Ring.{readRing}
 use Rattle.codec.proofs.Laws.Ring.{HeadGood, head-good, head-passed, read-zero}
 use Rattle.records.specs.Layout.{ringRoom}
 use Rattle.records.specs.Record.{fileLength, fileOf, padGood, ringOctets}
+use Rattle.records.proofs.Laws.Load.{count-front, file-room}
 use Rattle.record_theorems.proofs.Laws.Goes.{Goes}
 
--- ---- how long a ring file says that it is
-
-pub file-room : (s : List ℕ) → fileLength s ≤ ringRoom
-file-room s = omega (arith, bits-below s 4 6)
-
--- its first two octets say it
-pub count-front : (f t : List ℕ) → 2 ≤ length f → count (f ++ t) ≡ count f
-unfolding bits
-count-front [] t h = absurd (omega arith)
-count-front (x ∷ []) t h = absurd (omega arith)
-count-front (x ∷ y ∷ f) t h = refl
+-- ---- how long a ring file says that it is: its first two octets say it
 
 length-front : (f t : List ℕ) → 2 ≤ length f → fileLength (f ++ t) ≡ fileLength f
 length-front f t h = ap (λ (n : ℕ). 2 + 6 * n) (count-front f t h)

@@ -17,8 +17,7 @@ use Rattle.wholeness.specs.Whole.{whole, listsGood, listGood}
 use Rattle.station.specs.declared.station.Station.{Station}
 use Rattle.records.specs.Layout.{ringRoom, ownAt, liveAt, recordLength}
 use Rattle.records.specs.Fields.{turnGood, flagsGood}
-use Rattle.records.specs.Record.{stationOctets, fileOf, ringFrom, padGood, stationFrom, stationOf, fieldsGood, notWhole, readRecord}
-use Rattle.records.specs.declared.record.Loaded.{Loaded}
+use Rattle.records.specs.Record.{Loaded, stationOctets, fileOf, ringFrom, padGood, stationFrom, stationOf, fieldsGood, notWhole, readRecord}
 use Rattle.parts.proofs.Laws.Tests.{held}
 use Rattle.records.proofs.Laws.Load.{wholeOf, record-good}
 use Rattle.record_theorems.proofs.Laws.Goes.{Goes}

@@ -13,8 +13,7 @@ use Rattle.codec.specs.declared.ring.Ring.{Ring}
 use Rattle.wholeness.specs.Whole.{whole}
 use Rattle.station.specs.declared.station.Station.{Station}
 use Rattle.records.specs.Layout.{ringRoom, ownAt}
-use Rattle.records.specs.Record.{stationOctets, fileOf, padGood, readRecord}
-use Rattle.records.specs.declared.record.Loaded.{Loaded}
+use Rattle.records.specs.Record.{Loaded, stationOctets, fileOf, padGood, readRecord}
 use Rattle.records.proofs.Laws.Load.{wholeOf}
 use Rattle.record_theorems.proofs.Laws.Front.{front-file, front-pad}
 use Rattle.record_theorems.proofs.Laws.Stations.{length-station}

@@ -9,8 +9,7 @@ use Rattle.codec.specs.declared.ring.Ring.{Ring}
 use Rattle.codec.specs.declared.ring.RingRead.{RingRead}
 use Rattle.wholeness.specs.Whole.{whole}
 use Rattle.station.specs.declared.station.Station.{Station}
-use Rattle.records.specs.Record.{ringOctets, recordOctets, fileOf, readRecord}
-use Rattle.records.specs.declared.record.Loaded.{Loaded}
+use Rattle.records.specs.Record.{Loaded, ringOctets, recordOctets, fileOf, readRecord}
 use Rattle.records.proofs.Laws.Load.{wholeOf}
 use Rattle.records.proofs.Laws.Sizes.{length-ring}
 use Rattle.record_theorems.proofs.Laws.Front.{file-fits, ring-file, ring-pad}

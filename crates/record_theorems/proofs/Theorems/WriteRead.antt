@@ -7,18 +7,16 @@ use Prim.Native.Nat.{ℕ, _+_, _-_, _≤_}
 use native.Mathlib.Omega.{arith}
 use borrow.Author.Tests.{eqb-true}
 use lib.ListN.{length, drop, take-append-drop, drop-of-length-le}
-use lib.Seq.{length-take-le}
 use Rattle.codec.specs.Octets.{Octets, zeros, firstNonzero}
 use Rattle.codec.specs.Ring.{readRing, ringFile}
 use Rattle.codec.specs.declared.ring.Ring.{Ring}
 use Rattle.codec.proofs.Laws.Octets.{octets-take}
 use Rattle.codec.proofs.Theorems.RingFile.{file-again}
 use Rattle.records.specs.Layout.{ringRoom, ownAt, recordLength}
-use Rattle.records.specs.Record.{stationOctets, ringOctets, recordOctets, fileLength, fileOf, ringFrom, stationOf, readRecord}
-use Rattle.records.specs.declared.record.Loaded.{Loaded}
-use Rattle.records.proofs.Laws.Load.{wholeOf}
+use Rattle.records.specs.Record.{Loaded, stationOctets, ringOctets, recordOctets, fileLength, fileOf, ringFrom, stationOf, readRecord}
+use Rattle.records.proofs.Laws.Load.{wholeOf, file-room, length-file}
 use Rattle.record_theorems.proofs.Laws.Goes.{Goes, goes-join}
-use Rattle.record_theorems.proofs.Laws.Front.{file-room, zeros-stand}
+use Rattle.record_theorems.proofs.Laws.Front.{zeros-stand}
 use Rattle.record_theorems.proofs.Laws.Stations.{station-written}
 use Rattle.record_theorems.proofs.Laws.Reading.{Parts, parts, parts-read}
 
@@ -27,7 +25,7 @@ module _ (rec : List ℕ) (o : Octets rec) (p : Parts rec) where
   file = fileOf rec
 
   long : length file ≡ fileLength rec
-  long = length-take-le (fileLength rec) rec (omega (arith, file-room rec, p .sized))
+  long = length-file rec (p .sized)
 
   file-here : Goes rec 0 file (fileLength rec)
   file-here = sym (take-append-drop (fileLength rec) rec)

@@ -1,11 +1,11 @@
 -- Laws of the calls of a driver: what a whole record says, the number in its order, and what a refusal and an answer of 0 leave.
 -- Assumes nothing.
 use mathlib.Core.Path.{_≡_, refl, sym, ap, _∙_}
-use mathlib.Core.Bool.{Bool, true, false, cond, not}
+use mathlib.Core.Bool.{Bool, true, false, cond}
 use mathlib.Core.List.{List, []}
 use Prim.Native.Nat.{ℕ, _+_, _-_, _*_, _≤_, zero-le}
 use native.Mathlib.Omega.{arith}
-use borrow.Author.Tests.{ne-eqb, eqb-true, ltb-false, not-true, not-false}
+use borrow.Author.Tests.{ne-eqb, eqb-true, ltb-false, not-false}
 use lib.ListN.{length, take, drop, length-take, length-append}
 use Rattle.codec.specs.Octets.{laid, zeros}
 use Rattle.packet_codec.specs.Packet.{kept}
@@ -21,13 +21,12 @@ use Rattle.parts.specs.declared.frame.Dispatch.the-variants.{Nothing, Sent}
 use Rattle.station.specs.declared.station.Station.{Station}
 use Rattle.station.specs.declared.station.Answer.{Answer}
 use Rattle.records.specs.Layout.{recordLength, placeLength, storeLength}
-use Rattle.records.specs.Record.{fileOf, ringFrom, stationOf, fieldsGood, notWhole, readRecord}
-use Rattle.records.specs.declared.record.Loaded.{Loaded}
-use Rattle.records.proofs.Laws.Load.{wholeOf, record-good}
+use Rattle.records.specs.Record.{Loaded, ringFrom, stationOf, fieldsGood, notWhole, readRecord}
+use Rattle.records.proofs.Laws.Load.{wholeOf, record-good, Held}
 use Rattle.shell.specs.Places.{fitsPlace, inPlace, carriedIn, informationOf}
 use Rattle.shell.specs.Packets.{sentOctets}
 use Rattle.shell.specs.Telling.{toldOf}
-use Rattle.shell.specs.Calls.{membersOf, ringIn, stationIn, callNumber, badOut, badStore, badBuffers, recordWith, Sending}
+use Rattle.shell.specs.Calls.{ringIn, stationIn, callNumber, badOut, badStore, badBuffers, recordWith, Sending}
 use Rattle.shell.proofs.Laws.Places.{fits-sound}
 
 -- ---- a record that is whole
@@ -71,22 +70,9 @@ length-filled file e =
     ∙ ap (λ (n : ℕ). length ms + n) (length-zeros (64 - length ms))
     ∙ omega arith
 
--- as the code has it, with what it loaded
-module _ (rec : List ℕ) (l : Loaded) (same : l ≡ readRecord rec) (ok : not (l .ok) ≡ false) where
-  all-whole : WholeRecord rec
-  all-whole = whole-record rec (ap (λ (x : Loaded). x .ok) (sym same) ∙ not-false _ ok)
-
-  pub whole-length : length rec ≡ recordLength
-  whole-length = all-whole .sized
-
-  pub whole-addresses : length (l .ring .addresses) ≡ 64
-  whole-addresses = ap (λ (x : Loaded). length (x .ring .addresses)) (same ∙ all-whole .loaded) ∙ length-filled (fileOf rec) (all-whole .good-ring)
-
-  pub whole-count : l .ring .n ≤ 64
-  whole-count = rw (same ∙ all-whole .loaded) (few-members (fileOf rec))
-
-  pub whole-members : length (take (l .ring .n) (l .ring .addresses)) ≤ 64
-  whole-members = rw (length-take) (omega (arith, whole-count))
+-- as the code has it, with the members that it holds
+pub few-held : {rec addresses : List ℕ} {n : ℕ} {st : Station} → Held rec addresses n st → (ms : List ℕ) → ms ≡ take n addresses → length ms ≤ 64
+few-held {addresses = addresses} {n = n} h ms e = rw (e, length-take) (omega (arith, h .few))
 
 -- ---- the information that a frame carries fits
 
@@ -130,31 +116,26 @@ pub record Done (bad : Bool) (rec : List ℕ) (a : Answer) : Type 0 where
   pub number-is : 0 ≡ callNumber bad rec a
 
 -- an answer b of the code has it
-own-number : (bad : Bool) (rec : List ℕ) (a b : Answer) (l : Loaded) → bad ≡ false → l ≡ readRecord rec → not (l .ok) ≡ false → b ≡ a
-    → b .number ≡ callNumber bad rec a
+own-number : (bad : Bool) (rec : List ℕ) (a b : Answer) → bad ≡ false → readRecord rec .ok ≡ true → b ≡ a → b .number ≡ callNumber bad rec a
 unfolding callNumber
-own-number bad rec a b l good same ok answer =
-    let o : readRecord rec .ok ≡ true = ap (λ (x : Loaded). x .ok) (sym same) ∙ not-false _ ok in
-    ap (λ (x : Answer). x .number) answer ∙ rw (good, o)
+own-number bad rec a b good ok answer = ap (λ (x : Answer). x .number) answer ∙ rw (good, ok)
 
 module _ {bad : Bool} {rec : List ℕ} {a : Answer} where
   pub refused-9 : bad ≡ true → Refusal bad rec a 9
   unfolding callNumber
   refused-9 b = record { number-is = rw b; some = λ z. omega arith }
 
-  module _ (l : Loaded) (good : bad ≡ false) (same : l ≡ readRecord rec) where
-    pub refused-35 : not (l .ok) ≡ true → Refusal bad rec a 35
+  module _ (good : bad ≡ false) where
+    pub refused-35 : readRecord rec .ok ≡ false → Refusal bad rec a 35
     unfolding callNumber
-    refused-35 n =
-        let o : readRecord rec .ok ≡ false = ap (λ (x : Loaded). x .ok) (sym same) ∙ not-true _ n in
-        record { number-is = rw (good, o); some = λ z. omega arith }
+    refused-35 o = record { number-is = rw (good, o); some = λ z. omega arith }
 
-    module _ (ok : not (l .ok) ≡ false) (b : Answer) (answer : b ≡ a) where
+    module _ (ok : readRecord rec .ok ≡ true) (b : Answer) (answer : b ≡ a) where
       pub refused-own : (b .number ≡ 0 → ⊥) → Refusal bad rec a (b .number)
-      refused-own n = record { number-is = own-number bad rec a b l good same ok answer; some = n }
+      refused-own n = record { number-is = own-number bad rec a b good ok answer; some = n }
 
       pub done : b .number ≡ 0 → Done bad rec a
-      done z = record { number-is = sym z ∙ own-number bad rec a b l good same ok answer }
+      done z = record { number-is = sym z ∙ own-number bad rec a b good ok answer }
 
 -- ---- what a call leaves
 
@@ -187,24 +168,25 @@ abbrev pub StationSending : Bool → (Station → Answer) → (Dispatch → List
 StationSending bad rule info rec =
     Sending (callNumber bad rec (rule (stationIn rec))) (rule (stationIn rec)) (ringIn rec) (info (rule (stationIn rec) .sent)) rec
 
-by-station : (rec : List ℕ) (rule : Station → Answer) (l : Loaded) (b : Answer) → l ≡ readRecord rec → b ≡ rule (l .station) → b ≡ rule (stationIn rec)
-by-station rec rule l b same answer = answer ∙ ap (λ (x : Loaded). rule (x .station)) same
+-- the answer over the station that is held is the one over the record's
+by-station : {rec addresses : List ℕ} {n : ℕ} {st : Station} → Held rec addresses n st → (rule : Station → Answer) (b : Answer) → b ≡ rule st → b ≡ rule (stationIn rec)
+by-station h rule b answer = answer ∙ ap rule (h .station)
 
-module _ {bad : Bool} {rec out told : List ℕ} (rule : Station → Answer) (info : Dispatch → List ℕ) (l : Loaded) (good : bad ≡ false)
-    (same : l ≡ readRecord rec)
-    (ok : not (l .ok) ≡ false)
+module _ {bad : Bool} {rec addresses out told : List ℕ} {n : ℕ} {st : Station} (rule : Station → Answer) (info : Dispatch → List ℕ)
+    (good : bad ≡ false)
+    (h : Held rec addresses n st)
     (b : Answer)
-    (answer : b ≡ rule (l .station))
+    (answer : b ≡ rule st)
   where
     pub station-refuses : (b .number ≡ 0 → ⊥) → StationSending bad rule info rec out told (b .number) rec out told
-    station-refuses n = not-sent (refused-own l good same ok b (by-station rec rule l b same answer) n)
+    station-refuses n = not-sent (refused-own good (h .ok) b (by-station h rule b answer) n)
 
-    pub station-sends : b .number ≡ 0 → (ms carried rec′ out′ told′ : List ℕ) → ms ≡ membersOf (l .ring) → carried ≡ info (b .sent)
+    pub station-sends : b .number ≡ 0 → (ms carried rec′ out′ told′ : List ℕ) → ms ≡ take n addresses → carried ≡ info (b .sent)
         → (rec′ ≡ recordWith rec (b .station)) × ((out′ ≡ laid out 0 (sentOctets ms (b .sent) carried)) × (told′ ≡ laid told 0 (toldOf ms (b .sent) (b .struck) (b .gone))))
         → StationSending bad rule info rec out told 0 rec′ out′ told′
     station-sends z ms carried rec′ out′ told′ em ei s =
-        let e : b ≡ rule (stationIn rec) = by-station rec rule l b same answer in
-        all-sent b ms carried rec′ out′ told′ (done l good same ok b e z) e
-        (em ∙ ap (λ (x : Loaded). membersOf (x .ring)) same)
+        let e : b ≡ rule (stationIn rec) = by-station h rule b answer in
+        all-sent b ms carried rec′ out′ told′ (done good (h .ok) b e z) e
+        (em ∙ h .members)
         (ei ∙ ap (λ (x : Answer). info (x .sent)) e)
         s

@@ -8,13 +8,13 @@ use lib.ListN.{length, take}
 use Rattle.codec.specs.Ring.{position}
 use Rattle.station.specs.Queue.{queueRule}
 use Rattle.station.specs.Take.{takeRule}
+use Rattle.station.specs.declared.station.Station.{Station}
 use Rattle.station.specs.declared.station.Answer.{Answer}
 use Rattle.records.specs.Layout.{storeLength}
-use Rattle.records.specs.Record.{readRecord}
-use Rattle.records.specs.declared.record.Loaded.{Loaded}
+use Rattle.records.proofs.Laws.Load.{Held}
 use Rattle.shell.specs.Places.{queued, taken}
 use Rattle.shell.specs.Telling.{takenTold}
-use Rattle.shell.specs.Calls.{membersOf, ringIn, badStore, recordWith, queueAnswer, Queueing, takenInto, takeAnswer, Taking}
+use Rattle.shell.specs.Calls.{ringIn, badStore, recordWith, queueAnswer, Queueing, takenInto, takeAnswer, Taking}
 use Rattle.shell.proofs.Laws.Calls.{Refusal, Done, kept-old}
 
 -- ---- the store's length
@@ -27,14 +27,14 @@ store-good {n} e = rw (eq-eqb n storeLength e)
 
 -- ---- queue
 
-module _ (rec : List ℕ) (to priority channel : ℕ) (payload : List ℕ) where
-  -- the answer as the code has it, with what it loaded and the position that it looked up
-  pub queue-answer : (l : Loaded) (ms : List ℕ) (p : ℕ) (b : Answer) → l ≡ readRecord rec → ms ≡ membersOf (l .ring) → p ≡ position ms to
-      → b ≡ queueRule (l .station) p priority channel (length payload) → b ≡ queueAnswer rec to priority channel payload
-  queue-answer l ms p b el em ep eb =
-      eb
-      ∙ ap (λ (q : ℕ). queueRule (l .station) q priority channel (length payload)) (ep ∙ ap (λ (r : List ℕ). position r to) em)
-      ∙ ap (λ (x : Loaded). queueRule (x .station) (position (membersOf (x .ring)) to) priority channel (length payload)) el
+-- the answer as the code has it, with what it holds and the position that it looked up
+pub queue-answer : {rec addresses : List ℕ} {n : ℕ} {st : Station} → Held rec addresses n st
+    → (to priority channel : ℕ) (payload ms : List ℕ) (p : ℕ) (b : Answer) → ms ≡ take n addresses → p ≡ position ms to
+    → b ≡ queueRule st p priority channel (length payload) → b ≡ queueAnswer rec to priority channel payload
+queue-answer {rec = rec} {st = st} h to priority channel payload ms p b em ep eb =
+    eb
+    ∙ ap (λ (q : ℕ). queueRule st q priority channel (length payload)) (ep ∙ ap (λ (r : List ℕ). position r to) (em ∙ h .members))
+    ∙ ap (λ (x : Station). queueRule x (position (ringIn rec) to) priority channel (length payload)) (h .station)
 
 module _ {rec store : List ℕ} {to priority channel : ℕ} {payload : List ℕ} where
   pub not-queued : {r : ℕ} → Refusal (badStore (length store)) rec (queueAnswer rec to priority channel payload) r
@@ -54,9 +54,9 @@ module _ {rec store : List ℕ} {to priority channel : ℕ} {payload : List ℕ}
 
 -- ---- take
 
-module _ (rec : List ℕ) (channel : ℕ) (room : List ℕ) where
-  pub take-answer : (l : Loaded) (b : Answer) → l ≡ readRecord rec → b ≡ takeRule (l .station) channel (length room) → b ≡ takeAnswer rec channel room
-  take-answer l b el eb = eb ∙ ap (λ (x : Loaded). takeRule (x .station) channel (length room)) el
+pub take-answer : {rec addresses : List ℕ} {n : ℕ} {st : Station} → Held rec addresses n st → (channel : ℕ) (room : List ℕ) (b : Answer)
+    → b ≡ takeRule st channel (length room) → b ≡ takeAnswer rec channel room
+take-answer h channel room b eb = eb ∙ ap (λ (x : Station). takeRule x channel (length room)) (h .station)
 
 module _ {rec store : List ℕ} {channel : ℕ} {room told : List ℕ} where
   pub not-taken : {r : ℕ} → Refusal (badStore (length store)) rec (takeAnswer rec channel room) r → Taking rec store channel room told r rec room told
@@ -64,17 +64,17 @@ module _ {rec store : List ℕ} {channel : ℕ} {room told : List ℕ} where
       record
       { answer = f .number-is; record-is = kept-old r _ _ (f .some); room-is = kept-old r _ _ (f .some); told-is = kept-old r _ _ (f .some) }
 
-  pub all-taken : (b : Answer) (l : Loaded) (ms part rec′ room′ told′ : List ℕ) → Done (badStore (length store)) rec (takeAnswer rec channel room)
-      → b ≡ takeAnswer rec channel room → l ≡ readRecord rec → ms ≡ membersOf (l .ring) → part ≡ taken store (b .payload)
+  pub all-taken : (b : Answer) (ms part rec′ room′ told′ : List ℕ) → Done (badStore (length store)) rec (takeAnswer rec channel room)
+      → b ≡ takeAnswer rec channel room → ms ≡ ringIn rec → part ≡ taken store (b .payload)
       → rec′ ≡ recordWith rec (b .station) → room′ ≡ takenInto room part → told′ ≡ takenTold ms (b .payload)
       → Taking rec store channel room told 0 rec′ room′ told′
-  all-taken b l ms part rec′ room′ told′ d eb el em ep er eo et =
+  all-taken b ms part rec′ room′ told′ d eb em ep er eo et =
       record {
         answer = d .number-is;
         record-is = er ∙ ap (λ (x : Answer). recordWith rec (x .station)) eb;
         room-is = eo ∙ ap (takenInto room) (ep ∙ ap (λ (x : Answer). taken store (x .payload)) eb);
         told-is =
             et
-            ∙ ap (λ (r : List ℕ). takenTold r (b .payload)) (em ∙ ap (λ (x : Loaded). membersOf (x .ring)) el)
+            ∙ ap (λ (r : List ℕ). takenTold r (b .payload)) em
             ∙ ap (λ (x : Answer). takenTold (ringIn rec) (x .payload)) eb;
       }

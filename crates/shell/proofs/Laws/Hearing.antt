@@ -1,7 +1,7 @@
 -- Laws of a heard packet: what a station answers, step by step, which part of the packet is the information, and what the call leaves.
 -- Assumes nothing.
 use mathlib.Core.Path.{_≡_, sym, ap, _∙_}
-use mathlib.Core.Bool.{false, not}
+use mathlib.Core.Bool.{false}
 use mathlib.Core.List.{List, []}
 use Prim.Native.Nat.{ℕ, _+_, _-_, _≤_, _<_}
 use native.Mathlib.Nat.{add-sub-cancel-left}
@@ -25,12 +25,11 @@ use Rattle.station.specs.declared.station.Payload.the-variants.{Of}
 use Rattle.station.specs.declared.station.Answer.{Answer}
 use Rattle.parts.proofs.Laws.Choose.{pick-true, pick-false}
 use Rattle.station.proofs.Laws.Moved.{moved-runs, moved-stops, unless-passes, unless-refuses}
-use Rattle.records.specs.Record.{readRecord}
-use Rattle.records.specs.declared.record.Loaded.{Loaded}
+use Rattle.records.proofs.Laws.Load.{Held}
 use Rattle.shell.specs.Places.{received, informationOf}
 use Rattle.shell.specs.Packets.{frameOf, sentOctets}
 use Rattle.shell.specs.Telling.{toldOf}
-use Rattle.shell.specs.Calls.{membersOf, badBuffers, recordWith, heardThen, packetRule, frameAnswer, heardInformation, Hearing}
+use Rattle.shell.specs.Calls.{ringIn, badBuffers, recordWith, heardThen, packetRule, frameAnswer, heardInformation, Hearing}
 use Rattle.shell.proofs.Laws.Calls.{Refusal, refused-own, done, kept-old, not-sent, all-sent}
 
 -- ---- what a station answers: the table of moves, the checks of both ends, the reading, the rule
@@ -83,38 +82,37 @@ pub not-heard : {rec store packet out told : List ℕ} {from to r : ℕ} → Ref
     → Hearing rec store from to packet out told r rec store out told
 not-heard {r = r} f = record { sending = not-sent f; store-is = kept-old r _ _ (f .some) }
 
--- the answer over what was loaded is the one over the record
-loaded-answer : (rec packet ms : List ℕ) (from to : ℕ) (l : Loaded) (b : Answer) → l ≡ readRecord rec → ms ≡ membersOf (l .ring)
-    → b ≡ packetRule (l .station) ms from to packet → b ≡ frameAnswer rec from to packet
-loaded-answer rec packet ms from to l b same seats answer =
+-- the answer over what is held is the one over the record
+held-answer : {rec addresses : List ℕ} {n : ℕ} {st : Station} → Held rec addresses n st → (packet ms : List ℕ) (from to : ℕ) (b : Answer)
+    → ms ≡ take n addresses → b ≡ packetRule st ms from to packet → b ≡ frameAnswer rec from to packet
+held-answer {rec = rec} {st = st} h packet ms from to b seats answer =
     answer
-    ∙ ap (λ (x : List ℕ). packetRule (l .station) x from to packet) seats
-    ∙ ap (λ (x : Loaded). packetRule (x .station) (membersOf (x .ring)) from to packet) same
+    ∙ ap (λ (x : List ℕ). packetRule st x from to packet) (seats ∙ h .members)
+    ∙ ap (λ (x : Station). packetRule x (ringIn rec) from to packet) (h .station)
 
-module _ {rec store packet out told ms : List ℕ} {from to : ℕ} (l : Loaded) (b : Answer)
+module _ {rec addresses store packet out told ms : List ℕ} {n from to : ℕ} {st : Station} (b : Answer)
     (good : badBuffers (length store) (length out) ≡ false)
-    (same : l ≡ readRecord rec)
-    (ok : not (l .ok) ≡ false)
-    (seats : ms ≡ membersOf (l .ring))
-    (answer : b ≡ packetRule (l .station) ms from to packet)
+    (h : Held rec addresses n st)
+    (seats : ms ≡ take n addresses)
+    (answer : b ≡ packetRule st ms from to packet)
   where
     pub heard-refused : (b .number ≡ 0 → ⊥) → Hearing rec store from to packet out told (b .number) rec store out told
-    heard-refused n = not-heard (refused-own l good same ok b (loaded-answer rec packet ms from to l b same seats answer) n)
+    heard-refused k = not-heard (refused-own good (h .ok) b (held-answer h packet ms from to b seats answer) k)
 
     -- composed from the store as it was, with the members anew; then the heard payload is stored
     pub heard-done : b .number ≡ 0 → (again carried information rec′ store′ out′ told′ : List ℕ)
-        → again ≡ membersOf (l .ring)
+        → again ≡ take n addresses
         → carried ≡ informationOf store (b .sent)
         → (rec′ ≡ recordWith rec (b .station)) × ((out′ ≡ laid out 0 (sentOctets again (b .sent) carried)) × (told′ ≡ laid told 0 (toldOf again (b .sent) (b .struck) (b .gone))))
         → information ≡ heardInformation packet (b .payload)
         → store′ ≡ received store (b .payload) information
         → Hearing rec store from to packet out told 0 rec′ store′ out′ told′
     heard-done z again carried information rec′ store′ out′ told′ er ec settled ei es =
-        let e : b ≡ frameAnswer rec from to packet = loaded-answer rec packet ms from to l b same seats answer in
+        let e : b ≡ frameAnswer rec from to packet = held-answer h packet ms from to b seats answer in
         record {
           sending =
-              all-sent b again carried rec′ out′ told′ (done l good same ok b e z) e
-              (er ∙ ap (λ (x : Loaded). membersOf (x .ring)) same)
+              all-sent b again carried rec′ out′ told′ (done good (h .ok) b e z) e
+              (er ∙ h .members)
               (ec ∙ ap (λ (x : Answer). informationOf store (x .sent)) e)
               settled;
           store-is = es ∙ ap (received store (b .payload)) ei ∙ ap (λ (x : Answer). received store (x .payload) (heardInformation packet (x .payload))) e;

@@ -15,8 +15,7 @@ use Rattle.codec.proofs.Laws.Ring.{few-members, read-zero, read-good, head-pass
 use Rattle.codec.specs.declared.ring.Ring.{Ring}
 use Rattle.station.specs.declared.station.Station.{Station}
 use Rattle.records.specs.Layout.{recordLength}
-use Rattle.records.specs.Record.{stationOctets, ringOctets, recordOctets, fileOf, readRecord}
-use Rattle.records.specs.declared.record.Loaded.{Loaded}
+use Rattle.records.specs.Record.{Loaded, stationOctets, ringOctets, recordOctets, fileOf, readRecord}
 use Rattle.records.proofs.Laws.Sizes.{length-ring}
 use Rattle.record_theorems.proofs.Laws.Typed.{Typed}
 use Rattle.record_theorems.proofs.Laws.Front.{file-fits}

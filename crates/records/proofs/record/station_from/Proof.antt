@@ -15,26 +15,35 @@ messages-at-requires-2 c κs = search needs
 turn-at-requires : tie.Need-turn-at-requires
 turn-at-requires c κs = search needs
 
-get-requires : tie.Need-get-requires
-get-requires c κs = search needs
+cast-t7 : tie.Need-cast-t7
+cast-t7 c = search needs
+
+bits-requires : tie.Need-bits-requires
+bits-requires c κs = search needs
 
 cast-t9 : tie.Need-cast-t9
 cast-t9 c = search needs
 
-get-requires-2 : tie.Need-get-requires-2
-get-requires-2 c κs = search needs
+get-requires : tie.Need-get-requires
+get-requires c κs = search needs
 
 cast-t11 : tie.Need-cast-t11
 cast-t11 c = search needs
 
-get-requires-3 : tie.Need-get-requires-3
-get-requires-3 c κs = search needs
+get-requires-2 : tie.Need-get-requires-2
+get-requires-2 c κs = search needs
 
 cast-t13 : tie.Need-cast-t13
 cast-t13 c = search needs
 
+get-requires-3 : tie.Need-get-requires-3
+get-requires-3 c κs = search needs
+
+cast-t15 : tie.Need-cast-t15
+cast-t15 c = search needs
+
 returns : tie.Need-returns
-returns c = rw (c .before .before .before .before .before .before .live-from .ensures, c .before .before .before .before .before .messages-at .ensures, c .before .before .before .before .messages-at2 .ensures, c .before .before .before .turn-at .ensures, c .before .before .get .ensures .0, c .before .get2 .ensures .0, c .get3 .ensures .0)
+returns c = rw (c .before .before .before .before .before .before .before .live-from .ensures, c .before .before .before .before .before .before .messages-at .ensures, c .before .before .before .before .before .messages-at2 .ensures, c .before .before .before .before .turn-at .ensures, c .before .before .before .bits .ensures .0, c .before .before .get .ensures .0, c .before .get2 .ensures .0, c .get3 .ensures .0)
 
 pub station-from-spec : {M : Type 1} → statement M
 station-from-spec =
@@ -44,10 +53,13 @@ station-from-spec =
     messages-at-requires
     messages-at-requires-2
     turn-at-requires
-    get-requires
+    cast-t7
+    bits-requires
     cast-t9
-    get-requires-2
+    get-requires
     cast-t11
-    get-requires-3
+    get-requires-2
     cast-t13
+    get-requires-3
+    cast-t15
     returns)

@@ -1,7 +1,11 @@
 -- `hearing::frame` meets its contract: at each return the tests that led there say which number it is, and what is left.
-use mathlib.Core.Path.{sym, _∙_}
+use mathlib.Core.Path.{_≡_, sym, _∙_}
+use mathlib.Core.Bool.{false}
 use native.Mathlib.Omega.{arith}
-use Rattle.shell.proofs.Laws.Calls.{whole-length, whole-addresses, whole-members, information-short, good-buffers, refused-9, refused-35}
+use lib.ListN.{length}
+use Rattle.records.proofs.Laws.Load.{Held, not-good, good-sized, good-few, not-whole, held}
+use Rattle.shell.specs.Calls.{badBuffers}
+use Rattle.shell.proofs.Laws.Calls.{few-held, information-short, good-buffers, refused-9, refused-35}
 use Rattle.shell.proofs.Laws.Hearing.{not-heard, heard-refused, heard-done}
 use borrow.Author.Needs.{needs}
 use Rattle.shell.proofs.hearing.frame.Statement.{statement}
@@ -13,32 +17,68 @@ bad-buffers-requires c κs = search needs
 returns : tie.Need-returns
 returns c = not-heard (refused-9 (sym (c .before .bad-buffers .ensures) ∙ c .if1 .taken))
 
-load-requires : tie.Need-load-requires
-load-requires c κs = search needs
+good-buffers-at : (c : tie.Else1) → badBuffers (length (c .before .before .before .before .before .before .args .store .now)) (length (c .before .before .before .before .before .before .args .out .now)) ≡ false
+good-buffers-at c = sym (c .before .bad-buffers .ensures) ∙ c .if1 .left
+
+held-at : (c : tie.Else3) → Held (c .before .before .before .before .before .before .before .before .before .before .before .before .before .before .before .args .rec .now) (c .before .before .before .before .before .before .ring-into .last .1 .0) (c .before .before .before .before .before .before .ring-into .result) (c .before .before .station-from .result)
+held-at c =
+    held _ _ _ (c .before .before .before .before .before .before .ring-into .ensures) (c .before .before .before .before .if2 .left) _ _ (c .before .before .station-from .ensures) (c .before .is-whole .ensures) (c .if3 .left)
+
+slice-aggregate-ring-into : tie.Need-slice-aggregate-ring-into
+slice-aggregate-ring-into c = search needs
+
+ring-into-requires : tie.Need-ring-into-requires
+ring-into-requires c κs = search needs
 
 same-length : tie.Need-same-length
 same-length c = search needs
 
 returns-2 : tie.Need-returns-2
-returns-2 c = not-heard (refused-35 _ (sym (c .before .before .before .before .before .bad-buffers .ensures) ∙ c .before .before .before .before .if1 .left) (c .before .before .load .ensures) (c .if2 .taken))
+returns-2 c =
+    let e = c .before .before .before .before .before in
+    let r = c .before .before .ring-into in
+    not-heard (refused-35 (good-buffers-at e) (not-good (e .before .before .before .before .before .before .args .rec .now) (r .last .1 .0) (r .result) (r .ensures) (c .if2 .taken)))
 
-slice-aggregate-members : tie.Need-slice-aggregate-members
-slice-aggregate-members c = sym (whole-addresses _ _ (c .before .before .before .before .before .before .load .ensures) (c .before .before .before .before .if2 .left))
+station-from-requires : tie.Need-station-from-requires
+station-from-requires c κs =
+    let e = c .before in
+    let r = e .before .before .ring-into in
+    let h = good-sized (e .before .before .before .before .before .before .before .before .before .before .before .args .rec .now) (r .last .1 .0) (r .result) (r .ensures) (e .if2 .left) in
+    (omega (arith, h), good-few _ (r .last .1 .0) (r .result) (r .ensures) (e .if2 .left))
 
-members-requires : tie.Need-members-requires
-members-requires c κs = search needs
-
-hear-packet-requires : tie.Need-hear-packet-requires
-hear-packet-requires c κs = rw (c .members .ensures) (whole-members _ _ (c .before .before .before .before .before .before .before .load .ensures) (c .before .before .before .before .before .if2 .left))
+is-whole-requires : tie.Need-is-whole-requires
+is-whole-requires c κs = search needs
 
 same-length-2 : tie.Need-same-length-2
 same-length-2 c = search needs
 
 returns-3 : tie.Need-returns-3
-returns-3 c = heard-refused _ _ (sym (c .before .before .before .before .before .before .before .before .before .before .before .before .before .bad-buffers .ensures) ∙ c .before .before .before .before .before .before .before .before .before .before .before .before .if1 .left) (c .before .before .before .before .before .before .before .before .before .before .load .ensures) (c .before .before .before .before .before .before .before .before .if2 .left) (c .before .before .before .members .ensures) (c .before .before .hear-packet .ensures) (c .if3 .taken)
+returns-3 c =
+    let e = c .before .before .before .before in
+    let r = e .before .before .ring-into in
+    not-heard
+    (refused-35 (good-buffers-at (e .before .before .before .before .before))
+    (not-whole (e .before .before .before .before .before .before .before .before .before .before .before .args .rec .now) (r .last .1 .0) (r .result) (r .ensures) (e .if2 .left) _ _ (c .before .before .station-from .ensures) (c .before .is-whole .ensures) (c .if3 .taken)))
+
+slice-aggregate-members : tie.Need-slice-aggregate-members
+slice-aggregate-members c = search needs
+
+members-requires : tie.Need-members-requires
+members-requires c κs = search needs
+
+hear-packet-requires : tie.Need-hear-packet-requires
+hear-packet-requires c κs = few-held (held-at (c .before .before)) _ (c .members .ensures)
+
+same-length-3 : tie.Need-same-length-3
+same-length-3 c = search needs
+
+returns-4 : tie.Need-returns-4
+returns-4 c =
+    let e = c .before .before .before .before .before in
+    heard-refused _ (good-buffers-at (e .before .before .before .before .before .before .before .before .before)) (held-at e) (c .before .before .before .members .ensures) (c .before .before .hear-packet .ensures) (c .if4 .taken)
 
 slice-aggregate-members-2 : tie.Need-slice-aggregate-members-2
-slice-aggregate-members-2 c = sym (whole-addresses _ _ (c .before .before .before .before .before .before .before .before .before .before .before .before .before .before .load .ensures) (c .before .before .before .before .before .before .before .before .before .before .before .before .if2 .left))
+slice-aggregate-members-2 c = slice-aggregate-members (c .before .before .before .before .before .before .before .before)
 
 members-requires-2 : tie.Need-members-requires-2
 members-requires-2 c κs = search needs
@@ -48,8 +88,9 @@ information-of-requires c κs = search needs
 
 settle-requires : tie.Need-settle-requires
 settle-requires c κs =
-    let h = whole-length (c .before .before .before .before .before .before .before .before .before .before .before .before .before .before .before .before .before .before .before .before .before .before .before .before .before .args .rec .now) _ (c .before .before .before .before .before .before .before .before .before .before .before .before .before .before .before .before .before .load .ensures) (c .before .before .before .before .before .before .before .before .before .before .before .before .before .before .before .if2 .left) in
-    (omega (arith, h), (good-buffers _ _ (sym (c .before .before .before .before .before .before .before .before .before .before .before .before .before .before .before .before .before .before .before .before .bad-buffers .ensures) ∙ c .before .before .before .before .before .before .before .before .before .before .before .before .before .before .before .before .before .before .before .if1 .left) .1, information-short _ _ _ (c .information-of .ensures)))
+    let e = c .before .before .before .before .before .before .before .before .before .before .before .before in
+    let h = held-at e .sized in
+    (omega (arith, h), (good-buffers _ _ (good-buffers-at (e .before .before .before .before .before .before .before .before .before)) .1, information-short _ _ _ (c .information-of .ensures)))
 
 heard-information-requires : tie.Need-heard-information-requires
 heard-information-requires c κs = search needs
@@ -57,18 +98,19 @@ heard-information-requires c κs = search needs
 put-received-requires : tie.Need-put-received-requires
 put-received-requires c κs = search needs
 
-same-length-3 : tie.Need-same-length-3
-same-length-3 c = search needs
-
 same-length-4 : tie.Need-same-length-4
 same-length-4 c = search needs
 
 same-length-5 : tie.Need-same-length-5
 same-length-5 c = search needs
 
-returns-4 : tie.Need-returns-4
-returns-4 c =
-    heard-done _ _ (sym (c .before .before .before .before .before .before .before .before .before .before .before .before .before .before .before .before .before .before .before .before .before .before .before .before .before .before .before .before .before .before .bad-buffers .ensures) ∙ c .before .before .before .before .before .before .before .before .before .before .before .before .before .before .before .before .before .before .before .before .before .before .before .before .before .before .before .before .before .if1 .left) (c .before .before .before .before .before .before .before .before .before .before .before .before .before .before .before .before .before .before .before .before .before .before .before .before .before .before .before .load .ensures) (c .before .before .before .before .before .before .before .before .before .before .before .before .before .before .before .before .before .before .before .before .before .before .before .before .before .if2 .left) (c .before .before .before .before .before .before .before .before .before .before .before .before .before .before .before .before .before .before .before .before .members .ensures) (c .before .before .before .before .before .before .before .before .before .before .before .before .before .before .before .before .before .before .before .hear-packet .ensures) (c .before .before .before .before .before .before .before .before .before .before .before .before .before .before .before .before .before .if3 .left) _ _ _ _ _ _ _
+same-length-6 : tie.Need-same-length-6
+same-length-6 c = search needs
+
+returns-5 : tie.Need-returns-5
+returns-5 c =
+    let e = c .before .before .before .before .before .before .before .before .before .before .before .before .before .before .before .before .before .before .before .before .before .before in
+    heard-done _ (good-buffers-at (e .before .before .before .before .before .before .before .before .before)) (held-at e) (c .before .before .before .before .before .before .before .before .before .before .before .before .before .before .before .before .before .before .before .before .members .ensures) (c .before .before .before .before .before .before .before .before .before .before .before .before .before .before .before .before .before .before .before .hear-packet .ensures) (c .before .before .before .before .before .before .before .before .before .before .before .before .before .before .before .before .before .if4 .left) _ _ _ _ _ _ _
     (c .before .before .before .before .before .before .before .before .before .before .before .before .members2 .ensures)
     (c .before .before .before .before .before .before .before .before .before .before .information-of .ensures)
     (c .before .before .before .before .before .before .before .before .before .settle .ensures)
@@ -81,21 +123,26 @@ frame-spec =
     (tie.spec
     bad-buffers-requires
     returns
-    load-requires
+    slice-aggregate-ring-into
+    ring-into-requires
     same-length
     returns-2
+    station-from-requires
+    is-whole-requires
+    same-length-2
+    returns-3
     slice-aggregate-members
     members-requires
     hear-packet-requires
-    same-length-2
-    returns-3
+    same-length-3
+    returns-4
     slice-aggregate-members-2
     members-requires-2
     information-of-requires
     settle-requires
     heard-information-requires
     put-received-requires
-    same-length-3
     same-length-4
     same-length-5
-    returns-4)
+    same-length-6
+    returns-5)

@@ -1,11 +1,15 @@
 -- `sending::start` meets its contract: at each return the tests that led there say which number it is, and what is left.
-use mathlib.Core.Path.{refl, sym}
+use mathlib.Core.Path.{_≡_, refl}
+use mathlib.Core.Bool.{false}
 use mathlib.Core.List.{[]}
 use Prim.Native.Nat.{zero-le}
 use native.Mathlib.Omega.{arith}
 use borrow.Author.Tests.{lt-ltb, le-ltb}
+use lib.ListN.{length}
 use Rattle.station.specs.Start.{startRule}
-use Rattle.shell.proofs.Laws.Calls.{whole-length, whole-addresses, refused-9, refused-35, not-sent, station-refuses, station-sends}
+use Rattle.records.proofs.Laws.Load.{Held, not-good, good-sized, good-few, not-whole, held}
+use Rattle.shell.specs.Calls.{badOut}
+use Rattle.shell.proofs.Laws.Calls.{refused-9, refused-35, not-sent, station-refuses, station-sends}
 use borrow.Author.Needs.{needs}
 use Rattle.shell.proofs.sending.start.Statement.{statement}
 use Rattle.shell.proofs.sending.start.Tie as tie
@@ -13,28 +17,62 @@ use Rattle.shell.proofs.sending.start.Tie as tie
 returns : tie.Need-returns
 returns c = not-sent (refused-9 (lt-ltb _ _ (c .if1 .taken)))
 
-load-requires : tie.Need-load-requires
-load-requires c κs = search needs
+good-buffers-at : (c : tie.Else1) → badOut (length (c .before .before .before .args .out .now)) ≡ false
+good-buffers-at c = le-ltb _ _ (c .if1 .left)
+
+held-at : (c : tie.Else3) → Held (c .before .before .before .before .before .before .before .before .before .before .before .before .args .rec .now) (c .before .before .before .before .before .before .ring-into .last .1 .0) (c .before .before .before .before .before .before .ring-into .result) (c .before .before .station-from .result)
+held-at c =
+    held _ _ _ (c .before .before .before .before .before .before .ring-into .ensures) (c .before .before .before .before .if2 .left) _ _ (c .before .before .station-from .ensures) (c .before .is-whole .ensures) (c .if3 .left)
+
+slice-aggregate-ring-into : tie.Need-slice-aggregate-ring-into
+slice-aggregate-ring-into c = search needs
+
+ring-into-requires : tie.Need-ring-into-requires
+ring-into-requires c κs = search needs
 
 same-length : tie.Need-same-length
 same-length c = search needs
 
 returns-2 : tie.Need-returns-2
-returns-2 c = not-sent (refused-35 _ (le-ltb _ _ (c .before .before .before .before .if1 .left)) (c .before .before .load .ensures) (c .if2 .taken))
+returns-2 c =
+    let e = c .before .before .before .before .before in
+    let r = c .before .before .ring-into in
+    not-sent (refused-35 (good-buffers-at e) (not-good (e .before .before .before .args .rec .now) (r .last .1 .0) (r .result) (r .ensures) (c .if2 .taken)))
 
-start-requires : tie.Need-start-requires
-start-requires c κs = search needs
+station-from-requires : tie.Need-station-from-requires
+station-from-requires c κs =
+    let e = c .before in
+    let r = e .before .before .ring-into in
+    let h = good-sized (e .before .before .before .before .before .before .before .before .args .rec .now) (r .last .1 .0) (r .result) (r .ensures) (e .if2 .left) in
+    (omega (arith, h), good-few _ (r .last .1 .0) (r .result) (r .ensures) (e .if2 .left))
+
+is-whole-requires : tie.Need-is-whole-requires
+is-whole-requires c κs = search needs
 
 same-length-2 : tie.Need-same-length-2
 same-length-2 c = search needs
 
 returns-3 : tie.Need-returns-3
 returns-3 c =
-    station-refuses startRule (λ d. []) _ (le-ltb _ _ (c .before .before .before .before .before .before .before .before .if1 .left)) (c .before .before .before .before .before .before .load .ensures) (c .before .before .before .before .if2 .left) _ (c .before .before .start .ensures)
-    (c .if3 .taken)
+    let e = c .before .before .before .before in
+    let r = e .before .before .ring-into in
+    not-sent
+    (refused-35 (good-buffers-at (e .before .before .before .before .before))
+    (not-whole (e .before .before .before .before .before .before .before .before .args .rec .now) (r .last .1 .0) (r .result) (r .ensures) (e .if2 .left) _ _ (c .before .before .station-from .ensures) (c .before .is-whole .ensures) (c .if3 .taken)))
+
+start-requires : tie.Need-start-requires
+start-requires c κs = search needs
+
+same-length-3 : tie.Need-same-length-3
+same-length-3 c = search needs
+
+returns-4 : tie.Need-returns-4
+returns-4 c =
+    let e = c .before .before .before in
+    station-refuses startRule (λ d. []) (good-buffers-at (e .before .before .before .before .before .before .before .before .before)) (held-at e) _ (c .before .before .start .ensures) (c .if4 .taken)
 
 slice-aggregate-members : tie.Need-slice-aggregate-members
-slice-aggregate-members c = sym (whole-addresses _ _ (c .before .before .before .before .before .before .before .before .before .before .before .before .load .ensures) (c .before .before .before .before .before .before .before .before .before .before .if2 .left))
+slice-aggregate-members c = search needs
 
 members-requires : tie.Need-members-requires
 members-requires c κs = search needs
@@ -44,20 +82,20 @@ slice-aggregate-settle c = search needs
 
 settle-requires : tie.Need-settle-requires
 settle-requires c κs =
-    let h = whole-length (c .before .before .before .before .before .before .before .before .before .before .before .before .before .before .before .before .before .before .before .args .rec .now) _ (c .before .before .before .before .before .before .before .before .before .before .before .before .before .before .load .ensures) (c .before .before .before .before .before .before .before .before .before .before .before .before .if2 .left) in
-    (omega (arith, h), (c .before .before .before .before .before .before .before .before .before .before .before .before .before .before .before .before .if1 .left, zero-le))
-
-same-length-3 : tie.Need-same-length-3
-same-length-3 c = search needs
+    let e = c .before .before .before .before .before .before .before .before .before in
+    let h = held-at e .sized in
+    (omega (arith, h), (e .before .before .before .before .before .before .before .before .before .if1 .left, zero-le))
 
 same-length-4 : tie.Need-same-length-4
 same-length-4 c = search needs
 
-returns-4 : tie.Need-returns-4
-returns-4 c =
-    station-sends startRule (λ d. []) _ (le-ltb _ _ (c .before .before .before .before .before .before .before .before .before .before .before .before .before .before .before .before .before .before .before .before .before .if1 .left)) (c .before .before .before .before .before .before .before .before .before .before .before .before .before .before .before .before .before .before .before .load .ensures) (c .before .before .before .before .before .before .before .before .before .before .before .before .before .before .before .before .before .if2 .left) _ (c .before .before .before .before .before .before .before .before .before .before .before .before .before .before .before .start .ensures)
-    (c .before .before .before .before .before .before .before .before .before .before .before .before .before .if3 .left) _ [] _ _ _
-    (c .before .before .before .before .before .before .members .ensures) refl
+same-length-5 : tie.Need-same-length-5
+same-length-5 c = search needs
+
+returns-5 : tie.Need-returns-5
+returns-5 c =
+    let e = c .before .before .before .before .before .before .before .before .before .before .before .before .before .before in
+    station-sends startRule (λ d. []) (good-buffers-at (e .before .before .before .before .before .before .before .before .before)) (held-at e) _ (c .before .before .before .before .before .before .before .before .before .before .before .before .before .start .ensures) (c .before .before .before .before .before .before .before .before .before .before .before .if4 .left) _ [] _ _ _ (c .before .before .before .before .before .before .members .ensures) refl
     (c .before .before .before .before .settle .ensures)
 
 pub start-spec : {M : Type 1} → statement M
@@ -65,16 +103,21 @@ start-spec =
     tie.close
     (tie.spec
     returns
-    load-requires
+    slice-aggregate-ring-into
+    ring-into-requires
     same-length
     returns-2
-    start-requires
+    station-from-requires
+    is-whole-requires
     same-length-2
     returns-3
+    start-requires
+    same-length-3
+    returns-4
     slice-aggregate-members
     members-requires
     slice-aggregate-settle
     settle-requires
-    same-length-3
     same-length-4
-    returns-4)
+    same-length-5
+    returns-5)
