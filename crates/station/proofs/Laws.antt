@@ -2,5 +2,6 @@
 pub mod Moved
 pub mod Queue
 pub mod Heard
+pub mod Light
 pub mod Timer
 pub mod Stations

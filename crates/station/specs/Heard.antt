@@ -23,6 +23,7 @@ use Rattle.parts.specs.declared.frame.Dispatch.{Dispatch}
 use Rattle.parts.specs.declared.frame.Dispatch.the-variants.{Nothing, Sent}
 use Rattle.station.specs.declared.station.Handled.{Handled}
 use Rattle.station.specs.declared.station.Handled.the-variants.{Never, Last}
+use Rattle.station.specs.declared.station.Turn.{Turn}
 use Rattle.station.specs.declared.station.Station.{Station}
 use Rattle.station.specs.declared.station.Payload.the-variants.{NoPayload, Of}
 use Rattle.station.specs.declared.station.Answer.{Answer}
@@ -86,13 +87,16 @@ unfoldable pub isLast : Handled → ℕ → Bool
 isLast Never k = false
 isLast (Last j) k = eqb j k
 
-unfoldable pub nothingMore : Station → ℕ → ℕ → Bool
-nothingMore s to k =
+abbrev pub stops : ℕ → Turn → ℕ → ℕ → Bool
+stops own t to k =
     firstOf false
-    ((not (eqb to (s .own)), true)
-    ∷ (isLast (s .turn .handled) k, true)
-    ∷ (not (isIdle (stateOf s)), true)
+    ((not (eqb to own), true)
+    ∷ (isLast (t .handled) k, true)
+    ∷ (not (isIdle (t .state)), true)
     ∷ [])
+
+unfoldable pub nothingMore : Station → ℕ → ℕ → Bool
+nothingMore s to k = stops (s .own) (s .turn) to k
 
 -- ---- 5. the number is recorded as handled, and a frame is sent with the next number
 

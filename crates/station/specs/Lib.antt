@@ -3,6 +3,7 @@ pub mod Round
 pub mod Strike
 pub mod Start
 pub mod Heard
+pub mod Light
 pub mod Timer
 pub mod Queue
 pub mod Take

@@ -139,12 +139,18 @@ made n limit own =
     }
 
 -- in a state with no frame awaited; the retry count stays
+abbrev pub quietTurn : Turn → State → Turn
+quietTurn t st = record { state = st; awaited = Nothing; handled = t .handled; retries = t .retries }
+
 abbrev pub quiet : Station → State → Station
-quiet s st = withTurn s (record { state = st; awaited = Nothing; handled = s .turn .handled; retries = s .turn .retries })
+quiet s st = withTurn s (quietTurn (s .turn) st)
 
 -- a frame is sent: "the station becomes Waiting with retry count 0"
+abbrev pub sendingTurn : Handled → Dispatch → Turn
+sendingTurn handled d = record { state = Waiting; awaited = d; handled = handled; retries = 0 }
+
 abbrev pub sending : Station → Handled → Dispatch → Station
-sending s handled d = withTurn s (record { state = Waiting; awaited = d; handled = handled; retries = 0 })
+sending s handled d = withTurn s (sendingTurn handled d)
 
 -- "both counts stop at 4,294,967,295"
 unfoldable pub addUpTo : ℕ → ℕ → ℕ

@@ -1,5 +1,6 @@
 // What a station does: a file for each call, and one for what is sent.
 pub mod heard;
+pub mod light;
 pub mod queue;
 pub mod round;
 pub mod start;

@@ -6,7 +6,9 @@ ghost use Rattle.station.specs.Stations.{
   withLive,
   withSends,
   withReceives,
+  quietTurn,
   quiet,
+  sendingTurn,
   sending,
   addUpTo,
   counted,
@@ -97,30 +99,41 @@ pub fn with_receives(s: Station, l: Messages) -> Station
 }
 
 // In `state`, with no frame awaited.
-pub fn at_rest(s: Station, state: State) -> Station
-    ensures { λ r. ⌜ r ≡ quiet s state ⌝ }
+pub fn resting(t: Turn, state: State) -> Turn
+    ensures { λ r. ⌜ r ≡ quietTurn t state ⌝ }
 {
-    let t = s.turn;
     let handled = t.handled;
-    let u = Turn {
+    Turn {
         state,
         awaited: Dispatch::Nothing,
         handled,
         retries: t.retries,
-    };
+    }
+}
+
+pub fn at_rest(s: Station, state: State) -> Station
+    ensures { λ r. ⌜ r ≡ quiet s state ⌝ }
+{
+    let u = resting(s.turn, state);
     with_turn(s, u)
 }
 
 // Waiting for the acknowledgement of `d`, with `handled` as the last handled number.
-pub fn sends_out(s: Station, handled: Handled, d: Dispatch) -> Station
-    ensures { λ r. ⌜ r ≡ sending s handled d ⌝ }
+pub fn waiting(handled: Handled, d: Dispatch) -> Turn
+    ensures { λ r. ⌜ r ≡ sendingTurn handled d ⌝ }
 {
-    let u = Turn {
+    Turn {
         state: State::Waiting,
         awaited: d,
         handled,
         retries: 0,
-    };
+    }
+}
+
+pub fn sends_out(s: Station, handled: Handled, d: Dispatch) -> Station
+    ensures { λ r. ⌜ r ≡ sending s handled d ⌝ }
+{
+    let u = waiting(handled, d);
     with_turn(s, u)
 }
 

@@ -13,7 +13,7 @@ ghost use Rattle.station.specs.Heard.{
   strikeHeard,
   failed,
   isLast,
-  nothingMore,
+  stops,
   heardMessage,
   receive,
   stored,
@@ -30,6 +30,7 @@ use crate::station::Answer;
 use crate::station::Handled;
 use crate::station::Payload;
 use crate::station::Station;
+use crate::station::Turn;
 use parts::frame::Dispatch;
 use parts::frame::Frame;
 use parts::frame::Whom;
@@ -203,18 +204,17 @@ pub fn is_last(h: Handled, k: u16) -> bool
     }
 }
 
-pub fn nothing_more(s: Station, to: u8, k: u16) -> bool
-    ensures { λ r. ⌜ r ≡ nothingMore s to k ⌝ }
+pub fn nothing_more(own: u8, t: Turn, to: u8, k: u16) -> bool
+    ensures { λ r. ⌜ r ≡ stops own t to k ⌝ }
 {
-    if to != s.own {
+    if to != own {
         return true;
     }
-    let turn = s.turn;
-    let handled = turn.handled;
+    let handled = t.handled;
     if is_last(handled, k) {
         return true;
     }
-    let state = turn.state;
+    let state = t.state;
     if !parts::moves::is_idle(state) {
         return true;
     }
@@ -341,7 +341,7 @@ pub fn respond_to(k: Struck, from: u8, to: u8, f: Frame) -> Answer
 {
     let number = parts::frame::number_of(f);
     let s = k.station;
-    if nothing_more(s, to, number) {
+    if nothing_more(s.own, s.turn, to, number) {
         return stay_silent(k);
     }
     let t = store(s, from, f);
@@ -373,6 +373,10 @@ impl Station {
         let k = check_heard(self, from, to);
         if k != 0 {
             return crate::station::number_alone(self, k);
+        }
+        let l = crate::rules::light::light_of(self, f, from, to);
+        if l.ok {
+            return crate::rules::light::turn_alone(self, l);
         }
         hear(self, f, from, to)
     }
