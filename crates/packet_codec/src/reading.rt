@@ -2,7 +2,7 @@
 ghost use mathlib.Core.Path.{_≡_};
 ghost use Prim.Native.Nat.{_≤_};
 ghost use lib.ListN.{length};
-ghost use Rattle.packet_codec.specs.Packet.{shortOf, headOf, packetOf, readPacket};
+ghost use Rattle.packet_codec.specs.Packet.{shortOf, headOf, packetOf, readPacket, readNumber};
 use crate::fields::Looked;
 use crate::fields::look_read;
 use crate::packet::Head;
@@ -56,25 +56,35 @@ pub fn packet_of(s: &[u8]) -> Packet
     Packet::Information(head_of(s))
 }
 
-pub fn read_packet(ring: &[u64], s: &[u8]) -> Read
-    ensures { λ r. ⌜ r ≡ readPacket (now (ring .entry)) (now (s .entry)) ⌝ }
+// The refusal of a packet that is read against a ring, or 0.
+pub fn refusal_of(ring: &[u64], s: &[u8]) -> u32
+    ensures { λ r. ⌜ r ≡ readNumber (readPacket (now (ring .entry)) (now (s .entry))) ⌝ }
 {
     if s.len() < Packet::SHORT {
-        return Read::Refused(10);
+        return 10;
     }
     if Packet::LONGEST < s.len() {
-        return Read::Refused(10);
+        return 10;
     }
     let identifier = s[0];
     if identifier < 1 {
-        return Read::Refused(11);
+        return 11;
     }
     if 3 < identifier {
-        return Read::Refused(11);
+        return 11;
     }
-    let p = packet_of(s);
-    match look_read(ring, s, p) {
-        Looked::Sound => Read::Good(p),
-        Looked::Bad(_) => Read::Refused(12),
+    match look_read(ring, s, packet_of(s)) {
+        Looked::Sound => 0,
+        Looked::Bad(_) => 12,
     }
+}
+
+pub fn read_packet(ring: &[u64], s: &[u8]) -> Read
+    ensures { λ r. ⌜ r ≡ readPacket (now (ring .entry)) (now (s .entry)) ⌝ }
+{
+    let number = refusal_of(ring, s);
+    if number != 0 {
+        return Read::Refused(number);
+    }
+    Read::Good(packet_of(s))
 }

@@ -4,15 +4,15 @@ ghost use mathlib.Core.List.{List, [], _∷_, _++_};
 ghost use Prim.Native.Nat.{_+_, _≤_, _<_};
 ghost use lib.ListN.{length, take};
 ghost use Rattle.codec.specs.Octets.{laid};
-ghost use Rattle.packet_codec.specs.Packet.{readPacket};
+ghost use Rattle.packet_codec.specs.Packet.{readPacket, readNumber};
 ghost use Rattle.rtep.specs.declared.Made.the-variants.{Nothing, Packet as Of};
-ghost use Rattle.rtep.specs.Told.{toldRing, RingTold, valuesOf, shortValues, headValues, readNumber, readTold, shortMade, headMade, madeOf, madeRefusal, WriteTold};
+ghost use Rattle.rtep.specs.Told.{toldRing, RingTold, valuesOf, shortValues, headValues, readTold, shortMade, headMade, madeOf, madeRefusal, WriteTold};
 use codec::ring::Ring;
 use packet_codec::packet::Head;
 use packet_codec::packet::Packet;
 use packet_codec::packet::Short;
-use packet_codec::reading::Read;
-use packet_codec::reading::read_packet;
+use packet_codec::reading::packet_of;
+use packet_codec::reading::refusal_of;
 use packet_codec::writing::write_packet;
 
 pub mod driver;
@@ -111,13 +111,12 @@ fn head_values(h: Head) -> [u64; 8]
 pub extern "C" fn rtep_read(ring: &[u64], packet: &[u8], told: &mut [u64; 8]) -> u32
     ensures { λ r. ⌜ (r ≡ readNumber (readPacket (now (ring .entry)) (now (packet .entry)))) × (now (told .exit) ≡ readTold (readPacket (now (ring .entry)) (now (packet .entry))) (now (told .entry))) ⌝ }
 {
-    match read_packet(ring, packet) {
-        Read::Refused(number) => number,
-        Read::Good(p) => {
-            *told = values_of(p);
-            0
-        }
+    let number = refusal_of(ring, packet);
+    if number != 0 {
+        return number;
     }
+    *told = values_of(packet_of(packet));
+    0
 }
 
 // The short packet of eight numbers, whose channel and length are to be 0.
