@@ -2,9 +2,14 @@
 ghost use mathlib.Core.Path.{_≡_};
 ghost use Prim.Native.Nat.{_≤_};
 ghost use lib.ListN.{length};
-ghost use Rattle.packet_codec.specs.Packet.{shortOf, headOf, packetOf, readPacket, readNumber};
+ghost use Rattle.codec.specs.Order.{firstOf};
+ghost use Rattle.packet_codec.specs.declared.fields.Looked.the-variants.{Sound};
+ghost use Rattle.packet_codec.specs.Packet.{shortOf, headOf, packetOf, readTests, readPacket, readNumber};
 use crate::fields::Looked;
-use crate::fields::look_read;
+use crate::fields::look_information;
+use crate::fields::look_token;
+use crate::fields::look_transmit;
+use crate::fields::then_rest;
 use crate::packet::Head;
 use crate::packet::Packet;
 use crate::packet::Short;
@@ -56,6 +61,24 @@ pub fn packet_of(s: &[u8]) -> Packet
     Packet::Information(head_of(s))
 }
 
+// Everything about a packet that is read. Its kind is asked for once, and its fields are looked at as they are read.
+pub fn look_read(ring: &[u64], s: &[u8]) -> Looked
+    requires { ⌜ 46 ≤ length (now s) ⌝ }
+    ensures { λ r. ⌜ r ≡ firstOf Sound (readTests (now (ring .entry)) (now (s .entry)) (packetOf (now (s .entry)))) ⌝ }
+{
+    let identifier = s[0];
+    if identifier == 1 {
+        let p = short_of(s);
+        return then_rest(look_token(ring, p), s, Packet::Token(p));
+    }
+    if identifier == 2 {
+        let p = short_of(s);
+        return then_rest(look_transmit(ring, p), s, Packet::Transmit(p));
+    }
+    let p = head_of(s);
+    then_rest(look_information(ring, p), s, Packet::Information(p))
+}
+
 // The refusal of a packet that is read against a ring, or 0.
 pub fn refusal_of(ring: &[u64], s: &[u8]) -> u32
     ensures { λ r. ⌜ r ≡ readNumber (readPacket (now (ring .entry)) (now (s .entry))) ⌝ }
@@ -73,7 +96,7 @@ pub fn refusal_of(ring: &[u64], s: &[u8]) -> u32
     if 3 < identifier {
         return 11;
     }
-    match look_read(ring, s, packet_of(s)) {
+    match look_read(ring, s) {
         Looked::Sound => 0,
         Looked::Bad(_) => 12,
     }

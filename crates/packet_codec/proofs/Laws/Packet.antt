@@ -5,7 +5,7 @@ use mathlib.Core.List.{List, [], _∷_, _++_}
 use Prim.Native.Nat.{ℕ, zero, suc, _+_, _-_, _<_, _≤_, zero-le}
 use native.Mathlib.Nat.{add-zero, add-suc, suc-add}
 use native.Mathlib.Omega.{arith}
-use borrow.Author.Tests.{lt-ltb, le-ltb, ltb-false, eqb-true, not-false}
+use borrow.Author.Tests.{eq-eqb, ne-eqb, lt-ltb, le-ltb, ltb-false, eqb-true, not-false}
 use lib.Dec.{ltb, eqb}
 use lib.ListN.{length, take, drop, getD, getD-replicate}
 use lib.Seq.{ext-getD, getD-take, getD-drop}
@@ -15,7 +15,7 @@ use Rattle.packet_codec.specs.declared.fields.Looked.{Looked}
 use Rattle.packet_codec.specs.declared.fields.Looked.the-variants.{Sound, Bad}
 use Rattle.packet_codec.specs.declared.packet.Packet.{Packet}
 use Rattle.packet_codec.specs.declared.packet.Packet.the-variants.{Token, Transmit, Information}
-use Rattle.packet_codec.specs.Packet.{fieldTests, padTests, lengthTests, restTests, readTests, writeTests, informationLength, padFrom, lengthFrom, size, isBad, identifier, packetOf, readPacket, readNumber, writeRefusal}
+use Rattle.packet_codec.specs.Packet.{fieldTests, padTests, lengthTests, restTests, readTests, writeTests, informationLength, padFrom, lengthFrom, size, isBad, identifier, shortOf, headOf, packetOf, readPacket, readNumber, writeRefusal}
 use Rattle.packet_codec.specs.declared.reading.Read.{Read}
 use Rattle.packet_codec.specs.declared.reading.Read.the-variants.{Refused, Good}
 use Rattle.codec.proofs.Laws.Octets.{length-part, length-zeros}
@@ -149,3 +149,17 @@ read-refused ring s number e n = go (readPacket ring s) e
     go : (r : Read) → number ≡ readNumber r → r ≡ Refused number
     go (Refused k) h = ap Refused (sym h)
     go (Good p) h = absurd (n h)
+
+-- ---- which packet the octets make
+
+pub packet-token : (s : List ℕ) → identifier s ≡ 1 → packetOf s ≡ Token (shortOf s)
+unfolding packetOf
+packet-token s e = simp (eq-eqb _ _ e)
+
+pub packet-transmit : (s : List ℕ) → (identifier s ≡ 1 → ⊥) → identifier s ≡ 2 → packetOf s ≡ Transmit (shortOf s)
+unfolding packetOf
+packet-transmit s n e = simp (ne-eqb _ _ n, eq-eqb _ _ e)
+
+pub packet-information : (s : List ℕ) → (identifier s ≡ 1 → ⊥) → (identifier s ≡ 2 → ⊥) → packetOf s ≡ Information (headOf s)
+unfolding packetOf
+packet-information s n m = simp (ne-eqb _ _ n, ne-eqb _ _ m)

@@ -8,10 +8,6 @@ use borrow.Author.Needs.{needs}
 use Rattle.packet_codec.proofs.reading.refusal_of.Statement.{statement}
 use Rattle.packet_codec.proofs.reading.refusal_of.Tie as tie
 
--- what the fields' tests give of the packet that the octets make
-found : (c : tie.After-look-read) → firstOf Sound (readTests (c .before .before .before .before .before .before .before .before .before .args .ring .now) (c .before .before .before .before .before .before .before .before .before .args .s .now) (packetOf (c .before .before .before .before .before .before .before .before .before .args .s .now))) ≡ c .look-read .result
-found c = sym (c .look-read .ensures ∙ ap (λ p. firstOf Sound (readTests (c .before .before .before .before .before .before .before .before .before .args .ring .now) (c .before .before .before .before .before .before .before .before .before .args .s .now) p)) (c .before .packet-of .ensures))
-
 returns : tie.Need-returns
 unfolding readPacket
 returns c = simp (lt-ltb _ _ (c .if1 .taken))
@@ -31,9 +27,6 @@ returns-4 : tie.Need-returns-4
 unfolding readPacket
 returns-4 c = simp (le-ltb _ _ (c .before .before .before .before .if1 .left), le-ltb _ _ (c .before .before .before .if2 .left), le-ltb _ _ (c .before .if3 .left), lt-ltb _ _ (c .if4 .taken))
 
-packet-of-requires : tie.Need-packet-of-requires
-packet-of-requires c κs = search needs
-
 look-read-requires : tie.Need-look-read-requires
 look-read-requires c κs = search needs
 
@@ -45,11 +38,11 @@ enum-told-2 c = search needs
 
 returns-5 : tie.Need-returns-5
 unfolding readPacket
-returns-5 c = simp (le-ltb _ _ (c .before .before .before .before .before .before .before .before .if1 .left), le-ltb _ _ (c .before .before .before .before .before .before .before .if2 .left), le-ltb _ _ (c .before .before .before .before .before .if3 .left), le-ltb _ _ (c .before .before .before .before .if4 .left), found (c .before .before) ∙ c .enum-told .given .1)
+returns-5 c = simp (le-ltb _ _ (c .before .before .before .before .before .before .before .if1 .left), le-ltb _ _ (c .before .before .before .before .before .before .if2 .left), le-ltb _ _ (c .before .before .before .before .if3 .left), le-ltb _ _ (c .before .before .before .if4 .left), sym (c .before .before .look-read .ensures) ∙ c .enum-told .given .1)
 
 returns-6 : tie.Need-returns-6
 unfolding readPacket
-returns-6 c = simp (le-ltb _ _ (c .before .before .before .before .before .before .before .before .if1 .left), le-ltb _ _ (c .before .before .before .before .before .before .before .if2 .left), le-ltb _ _ (c .before .before .before .before .before .if3 .left), le-ltb _ _ (c .before .before .before .before .if4 .left), found (c .before .before) ∙ c .enum-told2 .given .1)
+returns-6 c = simp (le-ltb _ _ (c .before .before .before .before .before .before .before .if1 .left), le-ltb _ _ (c .before .before .before .before .before .before .if2 .left), le-ltb _ _ (c .before .before .before .before .if3 .left), le-ltb _ _ (c .before .before .before .if4 .left), sym (c .before .before .look-read .ensures) ∙ c .enum-told2 .given .1)
 
 pub refusal-of-spec : {M : Type 1} → statement M
 refusal-of-spec =
@@ -60,7 +53,6 @@ refusal-of-spec =
     shared-slice-read-identifier
     returns-3
     returns-4
-    packet-of-requires
     look-read-requires
     enum-told
     enum-told-2
