@@ -1,10 +1,11 @@
 // Reading a packet against a ring.
 ghost use mathlib.Core.Path.{_≡_};
-ghost use Prim.Native.Nat.{_≤_};
+ghost use mathlib.Core.Bool.{cond};
+ghost use Prim.Native.Nat.{_≤_, _<_};
 ghost use lib.ListN.{length};
 ghost use Rattle.codec.specs.Order.{firstOf};
 ghost use Rattle.packet_codec.specs.declared.fields.Looked.the-variants.{Sound};
-ghost use Rattle.packet_codec.specs.Packet.{shortOf, headOf, packetOf, readTests, readPacket, readNumber};
+ghost use Rattle.packet_codec.specs.Packet.{identifier, shortOf, headOf, packetOf, readTests, isBad, readPacket, readNumber};
 use crate::fields::Looked;
 use crate::fields::look_information;
 use crate::fields::look_token;
@@ -61,25 +62,40 @@ pub fn packet_of(s: &[u8]) -> Packet
     Packet::Information(head_of(s))
 }
 
-// Everything about a packet that is read. Its kind is asked for once, and its fields are looked at as they are read.
-pub fn look_read(ring: &[u64], s: &[u8]) -> Looked
-    requires { ⌜ 46 ≤ length (now s) ⌝ }
+// Everything about a token or a transmit token that is read.
+fn look_short(ring: &[u64], s: &[u8]) -> Looked
+    requires { ⌜ (46 ≤ length (now s)) × ((1 ≤ identifier (now s)) × (identifier (now s) < 3)) ⌝ }
     ensures { λ r. ⌜ r ≡ firstOf Sound (readTests (now (ring .entry)) (now (s .entry)) (packetOf (now (s .entry)))) ⌝ }
 {
+    let p = short_of(s);
     let identifier = s[0];
     if identifier == 1 {
-        let p = short_of(s);
         return then_rest(look_token(ring, p), s, Packet::Token(p));
     }
-    if identifier == 2 {
-        let p = short_of(s);
-        return then_rest(look_transmit(ring, p), s, Packet::Transmit(p));
-    }
+    then_rest(look_transmit(ring, p), s, Packet::Transmit(p))
+}
+
+// Everything about information that is read.
+fn look_long(ring: &[u64], s: &[u8]) -> Looked
+    requires { ⌜ (46 ≤ length (now s)) × (identifier (now s) ≡ 3) ⌝ }
+    ensures { λ r. ⌜ r ≡ firstOf Sound (readTests (now (ring .entry)) (now (s .entry)) (packetOf (now (s .entry)))) ⌝ }
+{
     let p = head_of(s);
     then_rest(look_information(ring, p), s, Packet::Information(p))
 }
 
-// The refusal of a packet that is read against a ring, or 0.
+// The number of a look at the fields.
+fn number_of(l: Looked) -> u32
+    ensures { λ r. ⌜ r ≡ cond (isBad l) 12 0 ⌝ }
+{
+    match l {
+        Looked::Sound => 0,
+        Looked::Bad(_) => 12,
+    }
+}
+
+// The refusal of a packet that is read against a ring, or 0. Information needs no ring: it is looked at first, so that the
+// compiler need not have the ring at hand.
 pub fn refusal_of(ring: &[u64], s: &[u8]) -> u32
     ensures { λ r. ⌜ r ≡ readNumber (readPacket (now (ring .entry)) (now (s .entry))) ⌝ }
 {
@@ -96,10 +112,10 @@ pub fn refusal_of(ring: &[u64], s: &[u8]) -> u32
     if 3 < identifier {
         return 11;
     }
-    match look_read(ring, s) {
-        Looked::Sound => 0,
-        Looked::Bad(_) => 12,
+    if identifier == 3 {
+        return number_of(look_long(ring, s));
     }
+    number_of(look_short(ring, s))
 }
 
 pub fn read_packet(ring: &[u64], s: &[u8]) -> Read

@@ -163,3 +163,14 @@ packet-transmit s n e = simp (ne-eqb _ _ n, eq-eqb _ _ e)
 pub packet-information : (s : List ℕ) → (identifier s ≡ 1 → ⊥) → (identifier s ≡ 2 → ⊥) → packetOf s ≡ Information (headOf s)
 unfolding packetOf
 packet-information s n m = simp (ne-eqb _ _ n, ne-eqb _ _ m)
+
+-- past the tests of length and identifier it is the look at the fields that decides
+pub read-fields : (ring s : List ℕ) (l : Looked) → 46 ≤ length s → length s ≤ 1500 → 1 ≤ identifier s → identifier s ≤ 3
+    → l ≡ firstOf Sound (readTests ring s (packetOf s)) → cond (isBad l) 12 0 ≡ readNumber (readPacket ring s)
+unfolding readPacket
+read-fields ring s l a b c d e = simp (le-ltb _ _ a, le-ltb _ _ b, le-ltb _ _ c, le-ltb _ _ d) (go l e)
+  where
+    go : (l : Looked) → l ≡ firstOf Sound (readTests ring s (packetOf s))
+        → cond (isBad l) 12 0 ≡ readNumber (cond (isBad (firstOf Sound (readTests ring s (packetOf s)))) (Refused 12) (Good (packetOf s)))
+    go Sound h = ap (λ (x : Looked). readNumber (cond (isBad x) (Refused 12) (Good (packetOf s)))) h
+    go (Bad k) h = ap (λ (x : Looked). readNumber (cond (isBad x) (Refused 12) (Good (packetOf s)))) h

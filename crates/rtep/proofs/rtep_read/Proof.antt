@@ -22,11 +22,10 @@ values-in-requires c κs = read-long _ _ (sym (c .before .refusal-of .ensures) �
 returns-2 : tie.Need-returns-2
 returns-2 c =
     let z : 0 ≡ readNumber (readPacket (c .before .before .before .before .before .args .ring .now) (c .before .before .before .before .before .args .packet .now)) =
-    sym (c .before .if1 .left) ∙ c .before .before .refusal-of .ensures in
-    (
+    sym (c .before .if1 .left) ∙ c .before .before .refusal-of .ensures in (
       z,
       c .values-in .ensures
-      ∙ sym (ap (λ (r : Read). readTold r (c .before .before .before .before .before .args .told .now)) (read-good _ _ (sym z))),
+          ∙ sym (ap (λ (r : Read). readTold r (c .before .before .before .before .before .args .told .now)) (read-good _ _ (sym z))),
     )
 
 pub rtep-read-spec : {M : Type 1} → statement M

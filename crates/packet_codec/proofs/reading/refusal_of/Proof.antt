@@ -4,6 +4,7 @@ use borrow.Author.Tests.{lt-ltb, le-ltb}
 use Rattle.codec.specs.Order.{firstOf}
 use Rattle.packet_codec.specs.declared.fields.Looked.the-variants.{Sound, Bad}
 use Rattle.packet_codec.specs.Packet.{packetOf, readTests, isBad, readPacket, readNumber}
+use Rattle.packet_codec.proofs.Laws.Packet.{read-fields}
 use borrow.Author.Needs.{needs}
 use Rattle.packet_codec.proofs.reading.refusal_of.Statement.{statement}
 use Rattle.packet_codec.proofs.reading.refusal_of.Tie as tie
@@ -27,22 +28,23 @@ returns-4 : tie.Need-returns-4
 unfolding readPacket
 returns-4 c = simp (le-ltb _ _ (c .before .before .before .before .if1 .left), le-ltb _ _ (c .before .before .before .if2 .left), le-ltb _ _ (c .before .if3 .left), lt-ltb _ _ (c .if4 .taken))
 
-look-read-requires : tie.Need-look-read-requires
-look-read-requires c κs = search needs
+look-long-requires : tie.Need-look-long-requires
+look-long-requires c κs = search needs
 
-enum-told : tie.Need-enum-told
-enum-told c = search needs
-
-enum-told-2 : tie.Need-enum-told-2
-enum-told-2 c = search needs
+number-of-requires : tie.Need-number-of-requires
+number-of-requires c κs = search needs
 
 returns-5 : tie.Need-returns-5
-unfolding readPacket
-returns-5 c = simp (le-ltb _ _ (c .before .before .before .before .before .before .before .if1 .left), le-ltb _ _ (c .before .before .before .before .before .before .if2 .left), le-ltb _ _ (c .before .before .before .before .if3 .left), le-ltb _ _ (c .before .before .before .if4 .left), sym (c .before .before .look-read .ensures) ∙ c .enum-told .given .1)
+returns-5 c = c .number-of .ensures ∙ read-fields _ _ _ (c .before .before .before .before .before .before .before .if1 .left) (c .before .before .before .before .before .before .if2 .left) (c .before .before .before .before .if3 .left) (c .before .before .before .if4 .left) (c .before .look-long .ensures)
+
+look-short-requires : tie.Need-look-short-requires
+look-short-requires c κs = search needs
+
+number-of-requires-2 : tie.Need-number-of-requires-2
+number-of-requires-2 c κs = search needs
 
 returns-6 : tie.Need-returns-6
-unfolding readPacket
-returns-6 c = simp (le-ltb _ _ (c .before .before .before .before .before .before .before .if1 .left), le-ltb _ _ (c .before .before .before .before .before .before .if2 .left), le-ltb _ _ (c .before .before .before .before .if3 .left), le-ltb _ _ (c .before .before .before .if4 .left), sym (c .before .before .look-read .ensures) ∙ c .enum-told2 .given .1)
+returns-6 c = c .number-of2 .ensures ∙ read-fields _ _ _ (c .before .before .before .before .before .before .before .if1 .left) (c .before .before .before .before .before .before .if2 .left) (c .before .before .before .before .if3 .left) (c .before .before .before .if4 .left) (c .before .look-short .ensures)
 
 pub refusal-of-spec : {M : Type 1} → statement M
 refusal-of-spec =
@@ -53,8 +55,9 @@ refusal-of-spec =
     shared-slice-read-identifier
     returns-3
     returns-4
-    look-read-requires
-    enum-told
-    enum-told-2
+    look-long-requires
+    number-of-requires
     returns-5
+    look-short-requires
+    number-of-requires-2
     returns-6)
