@@ -164,6 +164,11 @@ readPacket ring s =
     ∷ (isBad (firstOf Sound (readTests ring s (packetOf s))), Refused 12)
     ∷ [])
 
+-- this paper's number for each case: 0 for a packet
+abbrev pub readNumber : Read → ℕ
+readNumber (Refused number) = number
+readNumber (Good p) = 0
+
 unfoldable pub writeRefusal : List ℕ → Packet → ℕ → ℕ → ℕ
 writeRefusal ring p info room =
     firstOf 0

@@ -5,7 +5,7 @@ ghost use lib.ListN.{length};
 ghost use Rattle.codec.specs.Order.{firstOf};
 ghost use Rattle.packet_codec.specs.declared.fields.Looked.the-variants.{Sound};
 ghost use Rattle.packet_codec.specs.declared.packet.Packet.the-variants.{Token, Transmit, Information};
-ghost use Rattle.packet_codec.specs.Packet.{belongs, failingBad, fieldTests, padTests, lengthTests, restTests, readTests, thenLooked};
+ghost use Rattle.packet_codec.specs.Packet.{belongs, failingBad, fieldTests, padTests, lengthTests, restTests, thenLooked};
 use crate::packet::Head;
 use crate::packet::Packet;
 use crate::packet::Short;
@@ -133,24 +133,12 @@ pub fn look_rest(s: &[u8], p: Packet) -> Looked
 }
 
 // The rest of a packet that is read, after what its fields gave.
-fn then_rest(fields: Looked, s: &[u8], p: Packet) -> Looked
+pub fn then_rest(fields: Looked, s: &[u8], p: Packet) -> Looked
     requires { ⌜ 46 ≤ length (now s) ⌝ }
     ensures { λ r. ⌜ r ≡ thenLooked fields (firstOf Sound (restTests (now (s .entry)) p)) ⌝ }
 {
     match fields {
         Looked::Bad(at) => Looked::Bad(at),
         Looked::Sound => look_rest(s, p),
-    }
-}
-
-// Everything about a packet that is read. The kind is asked for once, so that the compiler keeps the kinds apart from here on.
-pub fn look_read(ring: &[u64], s: &[u8], p: Packet) -> Looked
-    requires { ⌜ 46 ≤ length (now s) ⌝ }
-    ensures { λ r. ⌜ r ≡ firstOf Sound (readTests (now (ring .entry)) (now (s .entry)) p) ⌝ }
-{
-    match p {
-        Packet::Token(q) => then_rest(look_token(ring, q), s, p),
-        Packet::Transmit(q) => then_rest(look_transmit(ring, q), s, p),
-        Packet::Information(q) => then_rest(look_information(ring, q), s, p),
     }
 }

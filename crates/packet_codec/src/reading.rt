@@ -1,10 +1,16 @@
 // Reading a packet against a ring.
 ghost use mathlib.Core.Path.{_≡_};
-ghost use Prim.Native.Nat.{_≤_};
+ghost use mathlib.Core.Bool.{cond};
+ghost use Prim.Native.Nat.{_≤_, _<_};
 ghost use lib.ListN.{length};
-ghost use Rattle.packet_codec.specs.Packet.{shortOf, headOf, packetOf, readPacket};
+ghost use Rattle.codec.specs.Order.{firstOf};
+ghost use Rattle.packet_codec.specs.declared.fields.Looked.the-variants.{Sound};
+ghost use Rattle.packet_codec.specs.Packet.{identifier, shortOf, headOf, packetOf, readTests, isBad, readPacket, readNumber};
 use crate::fields::Looked;
-use crate::fields::look_read;
+use crate::fields::look_information;
+use crate::fields::look_token;
+use crate::fields::look_transmit;
+use crate::fields::then_rest;
 use crate::packet::Head;
 use crate::packet::Packet;
 use crate::packet::Short;
@@ -56,25 +62,68 @@ pub fn packet_of(s: &[u8]) -> Packet
     Packet::Information(head_of(s))
 }
 
-pub fn read_packet(ring: &[u64], s: &[u8]) -> Read
-    ensures { λ r. ⌜ r ≡ readPacket (now (ring .entry)) (now (s .entry)) ⌝ }
+// Everything about a token or a transmit token that is read.
+fn look_short(ring: &[u64], s: &[u8]) -> Looked
+    requires { ⌜ (46 ≤ length (now s)) × ((1 ≤ identifier (now s)) × (identifier (now s) < 3)) ⌝ }
+    ensures { λ r. ⌜ r ≡ firstOf Sound (readTests (now (ring .entry)) (now (s .entry)) (packetOf (now (s .entry)))) ⌝ }
+{
+    let p = short_of(s);
+    let identifier = s[0];
+    if identifier == 1 {
+        return then_rest(look_token(ring, p), s, Packet::Token(p));
+    }
+    then_rest(look_transmit(ring, p), s, Packet::Transmit(p))
+}
+
+// Everything about information that is read.
+fn look_long(ring: &[u64], s: &[u8]) -> Looked
+    requires { ⌜ (46 ≤ length (now s)) × (identifier (now s) ≡ 3) ⌝ }
+    ensures { λ r. ⌜ r ≡ firstOf Sound (readTests (now (ring .entry)) (now (s .entry)) (packetOf (now (s .entry)))) ⌝ }
+{
+    let p = head_of(s);
+    then_rest(look_information(ring, p), s, Packet::Information(p))
+}
+
+// The number of a look at the fields.
+fn number_of(l: Looked) -> u32
+    ensures { λ r. ⌜ r ≡ cond (isBad l) 12 0 ⌝ }
+{
+    match l {
+        Looked::Sound => 0,
+        Looked::Bad(_) => 12,
+    }
+}
+
+// The refusal of a packet that is read against a ring, or 0. Information needs no ring: it is looked at first, so that the
+// compiler need not have the ring at hand.
+pub fn refusal_of(ring: &[u64], s: &[u8]) -> u32
+    ensures { λ r. ⌜ r ≡ readNumber (readPacket (now (ring .entry)) (now (s .entry))) ⌝ }
 {
     if s.len() < Packet::SHORT {
-        return Read::Refused(10);
+        return 10;
     }
     if Packet::LONGEST < s.len() {
-        return Read::Refused(10);
+        return 10;
     }
     let identifier = s[0];
     if identifier < 1 {
-        return Read::Refused(11);
+        return 11;
     }
     if 3 < identifier {
-        return Read::Refused(11);
+        return 11;
     }
-    let p = packet_of(s);
-    match look_read(ring, s, p) {
-        Looked::Sound => Read::Good(p),
-        Looked::Bad(_) => Read::Refused(12),
+    if identifier == 3 {
+        return number_of(look_long(ring, s));
     }
+    number_of(look_short(ring, s))
+}
+
+pub fn read_packet(ring: &[u64], s: &[u8]) -> Read
+    ensures { λ r. ⌜ r ≡ readPacket (now (ring .entry)) (now (s .entry)) ⌝ }
+{
+    let number = refusal_of(ring, s);
+    if number != 0 {
+        return Read::Refused(number);
+    }
+    Read::Good(packet_of(s))
 }

@@ -42,10 +42,6 @@ valuesOf (Token p) = shortValues 1 p
 valuesOf (Transmit p) = shortValues 2 p
 valuesOf (Information h) = headValues h
 
-abbrev pub readNumber : Read → ℕ
-readNumber (Refused n) = n
-readNumber (Good p) = 0
-
 abbrev pub readTold : Read → List ℕ → List ℕ
 readTold (Refused n) told = told
 readTold (Good p) told = valuesOf p

@@ -4,15 +4,16 @@ ghost use mathlib.Core.List.{List, [], _∷_, _++_};
 ghost use Prim.Native.Nat.{_+_, _≤_, _<_};
 ghost use lib.ListN.{length, take};
 ghost use Rattle.codec.specs.Octets.{laid};
-ghost use Rattle.packet_codec.specs.Packet.{readPacket};
+ghost use Rattle.packet_codec.specs.Packet.{packetOf, readPacket, readNumber};
 ghost use Rattle.rtep.specs.declared.Made.the-variants.{Nothing, Packet as Of};
-ghost use Rattle.rtep.specs.Told.{toldRing, RingTold, valuesOf, shortValues, headValues, readNumber, readTold, shortMade, headMade, madeOf, madeRefusal, WriteTold};
+ghost use Rattle.rtep.specs.Told.{toldRing, RingTold, valuesOf, shortValues, headValues, readTold, shortMade, headMade, madeOf, madeRefusal, WriteTold};
 use codec::ring::Ring;
 use packet_codec::packet::Head;
 use packet_codec::packet::Packet;
 use packet_codec::packet::Short;
-use packet_codec::reading::Read;
-use packet_codec::reading::read_packet;
+use packet_codec::reading::head_of;
+use packet_codec::reading::refusal_of;
+use packet_codec::reading::short_of;
 use packet_codec::writing::write_packet;
 
 pub mod driver;
@@ -65,15 +66,19 @@ pub extern "C" fn rtep_ring(file: &[u8], told: &mut [u64; 66]) -> u32
     0
 }
 
-// The eight numbers of a packet: identifier, priority, number, master, failing, named, channel, length.
-pub fn values_of(p: Packet) -> [u64; 8]
-    ensures { λ r. ⌜ r ≡ valuesOf p ⌝ }
+// The eight numbers of the packet that the octets make: identifier, priority, number, master, failing, named, channel, length.
+pub fn values_in(s: &[u8]) -> [u64; 8]
+    requires { ⌜ 46 ≤ length (now s) ⌝ }
+    ensures { λ r. ⌜ r ≡ valuesOf (packetOf (now (s .entry))) ⌝ }
 {
-    match p {
-        Packet::Token(q) => short_values(1, q),
-        Packet::Transmit(q) => short_values(2, q),
-        Packet::Information(h) => head_values(h),
+    let identifier = s[0];
+    if identifier == 1 {
+        return short_values(1, short_of(s));
     }
+    if identifier == 2 {
+        return short_values(2, short_of(s));
+    }
+    head_values(head_of(s))
 }
 
 fn short_values(identifier: u64, p: Short) -> [u64; 8]
@@ -111,13 +116,12 @@ fn head_values(h: Head) -> [u64; 8]
 pub extern "C" fn rtep_read(ring: &[u64], packet: &[u8], told: &mut [u64; 8]) -> u32
     ensures { λ r. ⌜ (r ≡ readNumber (readPacket (now (ring .entry)) (now (packet .entry)))) × (now (told .exit) ≡ readTold (readPacket (now (ring .entry)) (now (packet .entry))) (now (told .entry))) ⌝ }
 {
-    match read_packet(ring, packet) {
-        Read::Refused(number) => number,
-        Read::Good(p) => {
-            *told = values_of(p);
-            0
-        }
+    let number = refusal_of(ring, packet);
+    if number != 0 {
+        return number;
     }
+    *told = values_in(packet);
+    0
 }
 
 // The short packet of eight numbers, whose channel and length are to be 0.

@@ -5,7 +5,7 @@ use mathlib.Core.List.{List, [], _∷_, _++_}
 use Prim.Native.Nat.{ℕ, zero, suc, _+_, _-_, _<_, _≤_, zero-le}
 use native.Mathlib.Nat.{add-zero, add-suc, suc-add}
 use native.Mathlib.Omega.{arith}
-use borrow.Author.Tests.{lt-ltb, le-ltb, ltb-false, eqb-true, not-false}
+use borrow.Author.Tests.{eq-eqb, ne-eqb, lt-ltb, le-ltb, ltb-false, eqb-true, not-false}
 use lib.Dec.{ltb, eqb}
 use lib.ListN.{length, take, drop, getD, getD-replicate}
 use lib.Seq.{ext-getD, getD-take, getD-drop}
@@ -15,9 +15,11 @@ use Rattle.packet_codec.specs.declared.fields.Looked.{Looked}
 use Rattle.packet_codec.specs.declared.fields.Looked.the-variants.{Sound, Bad}
 use Rattle.packet_codec.specs.declared.packet.Packet.{Packet}
 use Rattle.packet_codec.specs.declared.packet.Packet.the-variants.{Token, Transmit, Information}
-use Rattle.packet_codec.specs.Packet.{fieldTests, padTests, lengthTests, restTests, readTests, writeTests, informationLength, padFrom, lengthFrom, size, isBad, writeRefusal}
+use Rattle.packet_codec.specs.Packet.{fieldTests, padTests, lengthTests, restTests, readTests, writeTests, informationLength, padFrom, lengthFrom, size, isBad, identifier, shortOf, headOf, packetOf, readPacket, readNumber, writeRefusal}
+use Rattle.packet_codec.specs.declared.reading.Read.{Read}
+use Rattle.packet_codec.specs.declared.reading.Read.the-variants.{Refused, Good}
 use Rattle.codec.proofs.Laws.Octets.{length-part, length-zeros}
-use Rattle.codec.proofs.Laws.Order.{Apart, NoneHolds, first-append, none-holds, first-none, first-some, apart-append}
+use Rattle.codec.proofs.Laws.Order.{Apart, NoneHolds, first-append, none-holds, first-none, first-some, first-passed, apart-append}
 
 -- ---- one list of tests after another
 
@@ -104,3 +106,71 @@ pad-is s from k h n =
     (λ i hi.
     let b : i < k = rw (length-part s from k h) at hi in
     getD-take k (drop from s) i 0 b ∙ getD-drop from s i 0 ∙ pads-zero s from k n i b ∙ sym (getD-replicate k i 0 0 b))
+
+-- ---- the number of what reading gives
+
+-- each test's answer is a refusal
+abbrev Refusing : List (Bool × Read) → Type 0
+Refusing [] = Unit {0}
+Refusing (t ∷ ts) = (readNumber (t .1) ≡ 0 → ⊥) × Refusing ts
+
+none-refuses : (p : Packet) (ts : List (Bool × Read)) → Refusing ts → readNumber (firstOf (Good p) ts) ≡ 0 → NoneHolds ts
+none-refuses p [] a e = tt
+none-refuses p (t ∷ ts) a e = go (t .0) refl e (none-refuses p ts (a .1))
+  where
+    go : (b : Bool) → t .0 ≡ b → readNumber (cond b (t .1) (firstOf (Good p) ts)) ≡ 0 → (readNumber (firstOf (Good p) ts) ≡ 0 → NoneHolds ts)
+        → (t .0 ≡ false) × NoneHolds ts
+    go true h e′ rest = absurd (a .0 e′)
+    go false h e′ rest = (h, rest e′)
+
+abbrev tests : List ℕ → List ℕ → List (Bool × Read)
+tests ring s =
+    (ltb (length s) 46, Refused 10)
+    ∷ (ltb 1500 (length s), Refused 10)
+    ∷ (ltb (identifier s) 1, Refused 11)
+    ∷ (ltb 3 (identifier s), Refused 11)
+    ∷ (isBad (firstOf Sound (readTests ring s (packetOf s))), Refused 12)
+    ∷ []
+
+read-none : (ring s : List ℕ) → readNumber (readPacket ring s) ≡ 0 → NoneHolds (tests ring s)
+unfolding readPacket
+read-none ring s e = none-refuses (packetOf s) (tests ring s) ((λ z. absurd (omega arith)), ((λ z. absurd (omega arith)), ((λ z. absurd (omega arith)), ((λ z. absurd (omega arith)), ((λ z. absurd (omega arith)), tt))))) e
+
+pub read-good : (ring s : List ℕ) → readNumber (readPacket ring s) ≡ 0 → readPacket ring s ≡ Good (packetOf s)
+unfolding readPacket
+read-good ring s e = first-passed (Good (packetOf s)) (tests ring s) (read-none ring s e)
+
+pub read-long : (ring s : List ℕ) → readNumber (readPacket ring s) ≡ 0 → 46 ≤ length s
+read-long ring s e = ltb-false (length s) 46 (read-none ring s e .0)
+
+pub read-refused : (ring s : List ℕ) (number : ℕ) → number ≡ readNumber (readPacket ring s) → (number ≡ 0 → ⊥) → readPacket ring s ≡ Refused number
+read-refused ring s number e n = go (readPacket ring s) e
+  where
+    go : (r : Read) → number ≡ readNumber r → r ≡ Refused number
+    go (Refused k) h = ap Refused (sym h)
+    go (Good p) h = absurd (n h)
+
+-- ---- which packet the octets make
+
+pub packet-token : (s : List ℕ) → identifier s ≡ 1 → packetOf s ≡ Token (shortOf s)
+unfolding packetOf
+packet-token s e = simp (eq-eqb _ _ e)
+
+pub packet-transmit : (s : List ℕ) → (identifier s ≡ 1 → ⊥) → identifier s ≡ 2 → packetOf s ≡ Transmit (shortOf s)
+unfolding packetOf
+packet-transmit s n e = simp (ne-eqb _ _ n, eq-eqb _ _ e)
+
+pub packet-information : (s : List ℕ) → (identifier s ≡ 1 → ⊥) → (identifier s ≡ 2 → ⊥) → packetOf s ≡ Information (headOf s)
+unfolding packetOf
+packet-information s n m = simp (ne-eqb _ _ n, ne-eqb _ _ m)
+
+-- past the tests of length and identifier it is the look at the fields that decides
+pub read-fields : (ring s : List ℕ) (l : Looked) → 46 ≤ length s → length s ≤ 1500 → 1 ≤ identifier s → identifier s ≤ 3
+    → l ≡ firstOf Sound (readTests ring s (packetOf s)) → cond (isBad l) 12 0 ≡ readNumber (readPacket ring s)
+unfolding readPacket
+read-fields ring s l a b c d e = simp (le-ltb _ _ a, le-ltb _ _ b, le-ltb _ _ c, le-ltb _ _ d) (go l e)
+  where
+    go : (l : Looked) → l ≡ firstOf Sound (readTests ring s (packetOf s))
+        → cond (isBad l) 12 0 ≡ readNumber (cond (isBad (firstOf Sound (readTests ring s (packetOf s)))) (Refused 12) (Good (packetOf s)))
+    go Sound h = ap (λ (x : Looked). readNumber (cond (isBad x) (Refused 12) (Good (packetOf s)))) h
+    go (Bad k) h = ap (λ (x : Looked). readNumber (cond (isBad x) (Refused 12) (Good (packetOf s)))) h

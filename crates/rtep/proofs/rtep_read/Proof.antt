@@ -1,40 +1,32 @@
--- `rtep_read` meets its contract: each arm's constructor says the number and what is told.
+-- `rtep_read` meets its contract: its number says whether there is a packet, and then the packet is the one that the octets make.
 use mathlib.Core.Path.{_≡_, refl, sym, ap, _∙_}
-use Rattle.packet_codec.specs.declared.reading.Read.the-variants.{Refused, Good}
-use Rattle.packet_codec.specs.Packet.{readPacket}
+use Rattle.packet_codec.specs.declared.reading.Read.{Read}
+use Rattle.packet_codec.specs.Packet.{readPacket, readNumber}
+use Rattle.packet_codec.proofs.Laws.Packet.{read-refused, read-good, read-long}
+use Rattle.rtep.specs.Told.{readTold}
 use borrow.Author.Needs.{needs}
 use Rattle.rtep.proofs.rtep_read.Statement.{statement}
 use Rattle.rtep.proofs.rtep_read.Tie as tie
 
-read-packet-requires : tie.Need-read-packet-requires
-read-packet-requires c κs = search needs
-
-enum-known-number : tie.Need-enum-known-number
-enum-known-number c = search needs
-
-enum-known-p : tie.Need-enum-known-p
-enum-known-p c = search needs
-
-values-of-requires : tie.Need-values-of-requires
-values-of-requires c κs = search needs
+refusal-of-requires : tie.Need-refusal-of-requires
+refusal-of-requires c κs = search needs
 
 returns : tie.Need-returns
 returns c =
-    let e = sym (c .before .number .given .1) ∙ c .before .before .before .read-packet .ensures in
-    rw (← e) (refl, refl)
+    let e = c .before .refusal-of .ensures in
+    (e, sym (ap (λ (r : Read). readTold r (c .before .before .before .before .args .told .now)) (read-refused _ _ _ e (c .if1 .taken))))
+
+values-in-requires : tie.Need-values-in-requires
+values-in-requires c κs = read-long _ _ (sym (c .before .refusal-of .ensures) ∙ c .if1 .left)
 
 returns-2 : tie.Need-returns-2
 returns-2 c =
-    let e = sym (c .before .before .p .given .1) ∙ c .before .before .before .before .read-packet .ensures in
-    rw (← e) (refl, c .values-of .ensures)
+    let z : 0 ≡ readNumber (readPacket (c .before .before .before .before .before .args .ring .now) (c .before .before .before .before .before .args .packet .now)) =
+    sym (c .before .if1 .left) ∙ c .before .before .refusal-of .ensures in (
+      z,
+      c .values-in .ensures
+          ∙ sym (ap (λ (r : Read). readTold r (c .before .before .before .before .before .args .told .now)) (read-good _ _ (sym z))),
+    )
 
 pub rtep-read-spec : {M : Type 1} → statement M
-rtep-read-spec =
-    tie.close
-    (tie.spec
-    read-packet-requires
-    enum-known-number
-    enum-known-p
-    values-of-requires
-    returns
-    returns-2)
+rtep-read-spec = tie.close (tie.spec refusal-of-requires returns values-in-requires returns-2)

@@ -1,69 +1,23 @@
--- `reading::read_packet` meets its contract: at each return the tests that led there say which is the first that holds.
-use mathlib.Core.Path.{_≡_, refl, sym, ap, _∙_}
-use borrow.Author.Tests.{lt-ltb, le-ltb}
-use Rattle.codec.specs.Order.{firstOf}
-use Rattle.packet_codec.specs.declared.fields.Looked.the-variants.{Sound, Bad}
+-- `reading::read_packet` meets its contract: a number of 0 says that no test holds, any other that the first one which holds gave it.
+use mathlib.Core.Path.{_≡_, sym, ap, _∙_}
 use Rattle.packet_codec.specs.declared.reading.Read.the-variants.{Good}
-use Rattle.packet_codec.specs.Packet.{packetOf, readTests, isBad, readPacket}
+use Rattle.packet_codec.specs.Packet.{readPacket, readNumber}
+use Rattle.packet_codec.proofs.Laws.Packet.{read-refused, read-good, read-long}
 use borrow.Author.Needs.{needs}
 use Rattle.packet_codec.proofs.reading.read_packet.Statement.{statement}
 use Rattle.packet_codec.proofs.reading.read_packet.Tie as tie
 
--- what the fields' tests give of the packet that the octets make
-found : (c : tie.After-look-read) → firstOf Sound (readTests (c .before .before .before .before .before .before .before .before .before .args .ring .now) (c .before .before .before .before .before .before .before .before .before .args .s .now) (packetOf (c .before .before .before .before .before .before .before .before .before .args .s .now))) ≡ c .look-read .result
-found c = sym (c .look-read .ensures ∙ ap (λ p. firstOf Sound (readTests (c .before .before .before .before .before .before .before .before .before .args .ring .now) (c .before .before .before .before .before .before .before .before .before .args .s .now) p)) (c .before .packet-of .ensures))
+refusal-of-requires : tie.Need-refusal-of-requires
+refusal-of-requires c κs = search needs
 
 returns : tie.Need-returns
-unfolding readPacket
-returns c = simp (lt-ltb _ _ (c .if1 .taken))
-
-returns-2 : tie.Need-returns-2
-unfolding readPacket
-returns-2 c = simp (le-ltb _ _ (c .before .if1 .left), lt-ltb _ _ (c .if2 .taken))
-
-shared-slice-read-identifier : tie.Need-shared-slice-read-identifier
-shared-slice-read-identifier c = search needs
-
-returns-3 : tie.Need-returns-3
-unfolding readPacket
-returns-3 c = simp (le-ltb _ _ (c .before .before .before .if1 .left), le-ltb _ _ (c .before .before .if2 .left), lt-ltb _ _ (c .if3 .taken))
-
-returns-4 : tie.Need-returns-4
-unfolding readPacket
-returns-4 c = simp (le-ltb _ _ (c .before .before .before .before .if1 .left), le-ltb _ _ (c .before .before .before .if2 .left), le-ltb _ _ (c .before .if3 .left), lt-ltb _ _ (c .if4 .taken))
+returns c = sym (read-refused _ _ _ (c .before .refusal-of .ensures) (c .if1 .taken))
 
 packet-of-requires : tie.Need-packet-of-requires
-packet-of-requires c κs = search needs
+packet-of-requires c κs = read-long _ _ (sym (c .before .refusal-of .ensures) ∙ c .if1 .left)
 
-look-read-requires : tie.Need-look-read-requires
-look-read-requires c κs = search needs
-
-enum-told : tie.Need-enum-told
-enum-told c = search needs
-
-enum-told-2 : tie.Need-enum-told-2
-enum-told-2 c = search needs
-
-returns-5 : tie.Need-returns-5
-unfolding readPacket
-returns-5 c = simp (le-ltb _ _ (c .before .before .before .before .before .before .before .before .if1 .left), le-ltb _ _ (c .before .before .before .before .before .before .before .if2 .left), le-ltb _ _ (c .before .before .before .before .before .if3 .left), le-ltb _ _ (c .before .before .before .before .if4 .left), found (c .before .before) ∙ c .enum-told .given .1) (ap Good (c .before .before .before .packet-of .ensures))
-
-returns-6 : tie.Need-returns-6
-unfolding readPacket
-returns-6 c = simp (le-ltb _ _ (c .before .before .before .before .before .before .before .before .if1 .left), le-ltb _ _ (c .before .before .before .before .before .before .before .if2 .left), le-ltb _ _ (c .before .before .before .before .before .if3 .left), le-ltb _ _ (c .before .before .before .before .if4 .left), found (c .before .before) ∙ c .enum-told2 .given .1)
+returns-2 : tie.Need-returns-2
+returns-2 c = ap Good (c .packet-of .ensures) ∙ sym (read-good _ _ (sym (c .before .before .refusal-of .ensures) ∙ c .before .if1 .left))
 
 pub read-packet-spec : {M : Type 1} → statement M
-read-packet-spec =
-    tie.close
-    (tie.spec
-    returns
-    returns-2
-    shared-slice-read-identifier
-    returns-3
-    returns-4
-    packet-of-requires
-    look-read-requires
-    enum-told
-    enum-told-2
-    returns-5
-    returns-6)
+read-packet-spec = tie.close (tie.spec refusal-of-requires returns packet-of-requires returns-2)
