@@ -1,12 +1,11 @@
-// Many steps in one call: the loop over them stands where the table is, so that no step copies it.
+// Many steps in one call: the table is lent for them all, so that no step copies it.
 ghost use mathlib.Core.Path.{_≡_};
 ghost use Prim.Native.Nat.{_-_};
 ghost use lib.ListN.{length};
 ghost use Rattle.codec.specs.Octets.{laid};
 ghost use Rattle.bench.specs.Running.{fitting, stepsText, ran};
 use crate::ring::Bench;
-use crate::ring::Wire;
-use parts::frame::Dispatch;
+use crate::table::Going;
 
 // The bench after some steps, the end of what is printed, and how many steps were done.
 pub struct Ran {
@@ -40,44 +39,22 @@ impl Bench {
     {
         let most = fit_in(count, &*out, at);
         let n = self.n;
-        let m = parts::live::seats_of(n);
-        let mut stations = self.stations;
-        let mut wire = self.wire;
-        let mut used = at;
-        let mut k: usize = 0;
-        while k < most {
-            let d = wire.sent;
-            let Dispatch::Sent { frame, to } = d else {
-                break;
-            };
-            let from = wire.from;
-            let quiet = crate::delivery::is_quiet(frame);
-            let mut reply = Dispatch::Nothing;
-            let mut p: usize = 0;
-            while p < m {
-                let s = stations[p];
-                if crate::delivery::left_as_is(s, quiet, p, from, to) {
-                    p += 1;
-                    continue;
-                }
-                let a = s.frame(frame, from, to);
-                let t = a.station;
-                stations[p] = t;
-                let sent = a.sent;
-                reply = crate::delivery::reply_at(p, to, sent, reply);
-                p += 1;
-            }
-            wire = Wire {
-                from: to,
-                sent: reply,
-            };
-            used = crate::text::put_wire(&mut *out, used, wire);
-            k += 1;
-        }
+        let wire = self.wire;
+        let g = Going {
+            n,
+            wire,
+            most,
+            k: 0,
+            used: at,
+        };
+        let stations = self.stations;
+        let r = crate::table::run_in(stations, &mut *out, g);
+        let stations = r.stations;
+        let wire = r.wire;
         let bench = Bench { n, stations, wire };
         Ran {
             bench,
-            used,
+            used: r.used,
             done: most,
         }
     }

@@ -6,31 +6,21 @@ use native.Mathlib.Omega.{arith}
 use lib.ListN.{length}
 use Rattle.codec.specs.Octets.{laid}
 use Rattle.codec.proofs.Laws.Octets.{laid-none, length-laid}
-use Rattle.parts.specs.Live.{seats}
-use Rattle.parts.specs.declared.frame.Frame.{Frame}
-use Rattle.parts.specs.declared.frame.Dispatch.{Dispatch}
-use Rattle.parts.specs.declared.frame.Dispatch.the-variants.{Nothing, Sent}
-use Rattle.station.specs.declared.station.Station.{Station}
-use Rattle.bench.specs.Delivery.{steps}
+use Rattle.parts.specs.declared.frame.Dispatch.the-variants.{Nothing}
+use Rattle.bench.specs.Delivery.{step, steps}
 use Rattle.bench.specs.Rows.{rowsOn}
 use Rattle.bench.specs.Text.{rowsText}
 use Rattle.bench.specs.Running.{stepsText, ran}
-use Rattle.bench.specs.declared.ring.Wire.{Wire}
 use Rattle.bench.specs.declared.ring.Bench.{Bench}
 use Rattle.bench.specs.declared.running.Ran.{Ran}
-use Rattle.bench.proofs.Laws.Starting.{benchOf}
-use Rattle.bench.proofs.Laws.Steps.{steps-none, steps-rest, text-rest}
-use Rattle.bench.proofs.Laws.Passing.{Passed, passed-table, passed-reply}
-use Rattle.bench.proofs.Laws.Running.{step-sent, text-none, steps-short, turn-bench, turn-text}
-
-abbrev pub wireOf : ℕ → Dispatch → Wire
-wireOf from sent = record { from = from; sent = sent }
+use Rattle.bench.proofs.Laws.Steps.{steps-none, steps-one, text-one, steps-rest, text-rest}
+use Rattle.bench.proofs.Laws.Running.{text-none, steps-short, turn-bench, turn-text}
 
 abbrev pub ranOf : Bench → ℕ → ℕ → Ran
 ranOf b used done = record { bench = b; used = used; done = done }
 
 -- the bench b has done k of `most` steps from `self` on, and their lines stand in `out`
-pub record Going (self : Bench) (l : List ℕ) (at most : ℕ) (b : Bench) (out : List ℕ) (used k : ℕ) : Type 0 where
+pub record UnderWay (self : Bench) (l : List ℕ) (at most : ℕ) (b : Bench) (out : List ℕ) (used k : ℕ) : Type 0 where
   pub within : k ≤ most
   pub room : 32 * most ≤ length l - at
   pub table : length (b .stations) ≡ 64
@@ -40,7 +30,7 @@ pub record Going (self : Bench) (l : List ℕ) (at most : ℕ) (b : Bench) (out 
   pub end : used ≡ at + length (stepsText k self)
 
 pub going-none : (self : Bench) (l : List ℕ) (at most : ℕ) → 32 * most ≤ length l - at → length (self .stations) ≡ 64
-    → Going self l at most self l at 0
+    → UnderWay self l at most self l at 0
 going-none self l at most room table =
     record {
       within = omega arith;
@@ -52,28 +42,25 @@ going-none self l at most room table =
       end = rw (text-none self) (omega arith);
     }
 
-module _ (self : Bench) (l : List ℕ) (at most : ℕ) (b : Bench) (out : List ℕ) (used k : ℕ) (w : Going self l at most b out used k) where
+module _ (self : Bench) (l : List ℕ) (at most : ℕ) (b : Bench) (out : List ℕ) (used k : ℕ) (w : UnderWay self l at most b out used k) where
   pub going-room : k < most → used + 32 ≤ length out
   going-room h = omega (arith, w .room, w .long, w .end, steps-short k self)
 
   -- one step more, with its line
-  pub going-on : k < most → (f : Frame) (to : ℕ) (cur : List Station) (reply : Dispatch) (p : ℕ) (out₁ : List ℕ) (next : ℕ)
-      → b .wire .sent ≡ Sent f to → Passed (b .n) f (b .wire .from) to (b .stations) cur reply p → seats (b .n) ≤ p
-      → out₁ ≡ laid out used (rowsText (rowsOn (wireOf to reply))) → next ≡ used + length (rowsText (rowsOn (wireOf to reply)))
-      → Going self l at most (benchOf (b .n) cur (wireOf to reply)) out₁ next (k + 1)
-  going-on h f to cur reply p out₁ next e passed all eo en =
-      let c : Bench = benchOf (b .n) cur (wireOf to reply) in
-      let done : c ≡ steps (k + 1) self =
-      turn-bench self k b c (w .stepped)
-      (step-sent b f to cur reply e
-      (passed-table (b .n) f (b .wire .from) to (b .stations) cur reply p passed all (w .table))
-      (passed-reply (b .n) f (b .wire .from) to (b .stations) cur reply p passed all (w .table))) in
+  pub going-on : k < most → (c : Bench) (out₁ : List ℕ) (next : ℕ) → c ≡ steps 1 b → length (c .stations) ≡ 64
+      → out₁ ≡ laid out used (stepsText 1 b) → next ≡ used + length (stepsText 1 b)
+      → UnderWay self l at most c out₁ next (k + 1)
+  going-on h c out₁ next e size eo en =
+      let stepped : c ≡ step b = e ∙ steps-one b in
+      let line : stepsText 1 b ≡ rowsText (rowsOn (c .wire)) = text-one b ∙ ap (λ (x : Bench). rowsText (rowsOn (x .wire))) (sym stepped) in
+      let done : c ≡ steps (k + 1) self = turn-bench self k b c (w .stepped) stepped in
       let both : (out₁ ≡ laid l at (stepsText (k + 1) self)) × (next ≡ at + length (stepsText (k + 1) self)) =
-      turn-text self k l out out₁ at used next c done (omega (arith, w .room)) (w .text) (w .end) eo en in
+      turn-text self k l out out₁ at used next c done (omega (arith, w .room)) (w .text) (w .end)
+      (eo ∙ ap (laid out used) line) (en ∙ ap (λ (x : List ℕ). used + length x) line) in
       record {
         within = omega arith;
         room = w .room;
-        table = passed .long ∙ w .table;
+        table = size;
         long = ap length (both .0) ∙ length-laid l (stepsText (k + 1) self) at (omega (arith, w .room, steps-short (k + 1) self));
         stepped = done;
         text = both .0;

@@ -112,11 +112,12 @@ one-step g h ss ss₁ reply r out out₁ on e er es ep eo =
     let line : stepText (h .to) reply ≡ stepsText 1 b =
     ap (λ (t : ℕ). stepText t reply) et
     ∙ ap (λ (c : Bench). rowsText (rowsOn (c .wire))) (done ∙ steps-one b) ∙ sym (text-one b) in
-    let wire : wireOf (h .to) reply ≡ steps 1 b .wire = ap (λ (t : ℕ). wireOf t reply) et ∙ ap (λ (c : Bench). c .wire) done in
-    (ep
-    ∙ ap (λ (w : Wire). goingOf (g .n) w (g .most) (g .k + 1) (g .used + length (stepText (h .to) reply))) wire
-    ∙ ap (λ (t : List ℕ). goingOf (g .n) (steps 1 b .wire) (g .most) (g .k + 1) (g .used + length t)) line,
-    (ap (λ (c : Bench). c .stations) done, eo ∙ ap (laid out (g .used)) line))
+    let wire : wireOf (h .to) reply ≡ steps 1 b .wire = ap (λ (t : ℕ). wireOf t reply) et ∙ ap (λ (c : Bench). c .wire) done in (
+      ep
+          ∙ ap (λ (w : Wire). goingOf (g .n) w (g .most) (g .k + 1) (g .used + length (stepText (h .to) reply))) wire
+          ∙ ap (λ (t : List ℕ). goingOf (g .n) (steps 1 b .wire) (g .most) (g .k + 1) (g .used + length t)) line,
+      (ap (λ (c : Bench). c .stations) done, eo ∙ ap (laid out (g .used)) line),
+    )
 
 -- ---- a run: what holds before each step
 
@@ -156,9 +157,10 @@ module _ (g : Going) (ss₀ : List Station) (out₀ : List ℕ) where
         ap (λ (x : Going). benchIn x ss₁) e ∙ ap (λ (x : List Station). benchOf (r .n) x (steps 1 b .wire)) (p .1 .0)
         ∙ ap (λ (n : ℕ). benchOf n (steps 1 b .stations) (steps 1 b .wire)) (sym (steps-size 1 b)) in
         let next : UnderWay (benchIn g ss₀) out₀ (g .used) (g .most) (benchIn r₁ ss₁) out₁ (r .used + length (stepsText 1 b)) (r .k + 1) =
-        going-on _ _ _ _ _ _ _ _ (w .1) (less (on-less r on)) (benchIn r₁ ss₁) out₁ _ done (long ∙ w .1 .table) (p .1 .1) refl in
-        (ap (λ (x : Going). x .most) e ∙ w .0,
-        runs-at r₁ ss₁ out₁ (ap (λ (x : Going). x .used) e) (ap (λ (x : Going). x .k) e) next)
+        going-on _ _ _ _ _ _ _ _ (w .1) (less (on-less r on)) (benchIn r₁ ss₁) out₁ _ done (long ∙ w .1 .table) (p .1 .1) refl in (
+          ap (λ (x : Going). x .most) e ∙ w .0,
+          runs-at r₁ ss₁ out₁ (ap (λ (x : Going). x .used) e) (ap (λ (x : Going). x .k) e) next,
+        )
 
     pub runs-nearer : (r₁ : Going) → goesOn r ≡ true → r₁ ≡ wentOn r ss → g .most - r₁ .k < g .most - r .k
     runs-nearer r₁ on e =

@@ -4,8 +4,8 @@ use mathlib.Core.List.{List, [], _∷_, _++_, append-assoc, append-nil}
 use Prim.Native.Nat.{ℕ, zero, suc, _+_}
 use native.Mathlib.Nat.{zero-add, suc-add}
 use Rattle.parts.specs.declared.frame.Dispatch.{Dispatch}
-use Rattle.parts.specs.declared.frame.Dispatch.the-variants.{Nothing}
-use Rattle.bench.specs.Delivery.{stepOn, step, steps}
+use Rattle.parts.specs.declared.frame.Dispatch.the-variants.{Nothing, Sent}
+use Rattle.bench.specs.Delivery.{deliver, stepOn, step, steps}
 use Rattle.bench.specs.Rows.{rowOn, rowsOn}
 use Rattle.bench.specs.Runs.{afterEvent, composed, frames, stepping}
 use Rattle.bench.specs.Text.{rowText, rowsText}
@@ -38,6 +38,31 @@ frames-more (suc k) b =
 pub steps-text-more : (k : ℕ) (b : Bench) → stepsText (suc k) b ≡ stepsText k b ++ rowsText (rowsOn (step (steps k b) .wire))
 unfolding stepsText
 steps-text-more k b = ap rowsText (frames-more k b) ∙ text-append (frames b (stepping k)) (rowsOn (step (steps k b) .wire))
+
+-- ---- one step
+
+pub steps-one : (b : Bench) → steps 1 b ≡ step b
+unfolding steps
+steps-one b = refl
+
+pub text-one : (b : Bench) → stepsText 1 b ≡ rowsText (rowsOn (step b .wire))
+unfolding stepsText rowsText frames stepping
+text-one b = steps-text-more 0 b ∙ ap (λ (c : Bench). rowsText (rowsOn (step c .wire))) (steps-none b)
+
+-- ---- a step keeps the ring's size
+
+step-size : (b : Bench) → step b .n ≡ b .n
+unfolding step stepOn deliver
+step-size b = go (b .wire .sent)
+  where
+    go : (d : Dispatch) → stepOn b d .n ≡ b .n
+    go Nothing = refl
+    go (Sent frame to) = refl
+
+pub steps-size : (k : ℕ) (b : Bench) → steps k b .n ≡ b .n
+unfolding steps
+steps-size zero b = refl
+steps-size (suc k) b = steps-size k (step b) ∙ step-size b
 
 -- ---- k steps, and then j
 

@@ -165,13 +165,12 @@ module _ (s : List ℕ) (end k : ℕ) (l addresses : List ℕ) (sized : length s
         record { sized = sized; good-ring = ap (λ (r : RingRead). r .number) (read-good file (sym refusal-is ∙ z)); good-fields = f } in
         let size : (end - 2) / 6 ≡ count s = omega (arith, ends) in
         let laid-over : addresses ≡ laid l 0 (addressesOf file (count s)) =
-        read .1 z ∙ ap (λ (e : ℕ). laid l 0 (addressesOf (take e s) (count (take e s)))) ends ∙ ap (λ (n : ℕ). laid l 0 (addressesOf file n)) (file-count s g) in
-        (
+        read .1 z ∙ ap (λ (e : ℕ). laid l 0 (addressesOf (take e s) (count (take e s)))) ends ∙ ap (λ (n : ℕ). laid l 0 (addressesOf file n)) (file-count s g) in (
           size ∙ sym (ring-count s g) ∙ sym (ap (λ (r : Ring). r .n) (good-ring-is s g)),
           ap (λ (n : ℕ). take n addresses) size
-          ∙ members-laid file l addresses (count s) laid-over
-          ∙ sym (good-members s g)
-          ∙ ap (λ (n : ℕ). take n (goodRing s .addresses)) (sym size),
+              ∙ members-laid file l addresses (count s) laid-over
+              ∙ sym (good-members s g)
+              ∙ ap (λ (n : ℕ). take n (goodRing s .addresses)) (sym size),
         )
 
 -- ---- what a reader holds that took the checks in turn

@@ -48,7 +48,7 @@ loop-again c =
       omega arith,
       simp length-set (l .inv .1),
       ap (set (l .addresses) (l .i)) (c .bits-from .ensures .0)
-      ∙ addresses-more-laid (a .file .now) (a .addresses .now) (l .addresses) (l .i) (omega arith) (l .inv .2),
+          ∙ addresses-more-laid (a .file .now) (a .addresses .now) (l .addresses) (l .i) (omega arith) (l .inv .2),
     )
 
 same-length : tie.Need-same-length Inv-loop μ-loop
