@@ -1,4 +1,4 @@
--- A reader that a function has in a local is lent by `&mut` to `take`, and comes back: what the walks of such functions share.
+-- A reader that a function has in a local is lent by `&mut` to `Reader::take`, and comes back: what the walks of such functions share.
 -- The loan is for a lifetime ν ∷ κ that is made for the call and lies within the file's κ, since what a reference reaches must outlive it. Half of κ's token goes into it, and the other half stands for κ itself.
 --     Held h           the local holds the reader h: its cell, and what h owns
 --     Loan x h         what the callee is handed under x, which is ν and the reference's name: both tokens, and the reference
@@ -48,8 +48,8 @@ use Rattle.codec.specs.Bits.{bits}
 use Rattle.codec.specs.declared.reader.Reader.{Reader}
 use Rattle.codec.proofs.reader.Reader as T
 use Rattle.codec.proofs.reader.Reader.Laws as T′
-use Rattle.codec.proofs.reader.take as take
-use Rattle.codec.proofs.reader.take.Symbol.{name as #take}
+use Rattle.codec.proofs.reader.Reader.take as take
+use Rattle.codec.proofs.reader.Reader.take.Symbol.{name as #take}
 
 -- the contract that is cited
 abbrev pub Take : {M : Type 1} (𝓤 : URA M) (H : Heap 𝓤) (A : Atoms 𝓤) (at-mem : Memory → SProp 𝓤) (run : Routine → Fun 𝓤) → Contract 𝓤

@@ -3,7 +3,7 @@ ghost use mathlib.Core.Path.{_≡_};
 ghost use Prim.Native.Nat.{_≤_};
 ghost use lib.ListN.{length};
 ghost use Rattle.codec.specs.Ring.{headBits};
-use crate::reader::take;
+use crate::reader::Reader;
 
 pub struct HeadBits {
     pub form: u64,
@@ -17,11 +17,11 @@ pub fn head_of(file: &[u8]) -> HeadBits
     requires { ⌜ 2 ≤ length (now file) ⌝ }
     ensures { λ r. ⌜ r ≡ headBits (now (file .entry)) ⌝ }
 {
-    let mut r = crate::reader::new(file);
-    let form = take(&mut r, 4);
-    let others = take(&mut r, 6);
-    let limit = take(&mut r, 4);
-    let zeros = take(&mut r, 2);
+    let mut r = Reader::new(file);
+    let form = r.take(4);
+    let others = r.take(6);
+    let limit = r.take(4);
+    let zeros = r.take(2);
     HeadBits {
         form,
         others,

@@ -10,21 +10,23 @@ pub struct Reader<'a> {
     pub at: usize,
 }
 
-// A reader at the file's first bit.
-pub fn new<'a>(file: &'a [u8]) -> Reader<'a>
-    ensures { λ r. ⌜ (r .file ≡ file .entry) × (r .at ≡ 0) ⌝ }
-{
-    Reader { file, at: 0 }
-}
+impl<'a> Reader<'a> {
+    // A reader at the file's first bit.
+    pub fn new(file: &'a [u8]) -> Reader<'a>
+        ensures { λ r. ⌜ (r .file ≡ file .entry) × (r .at ≡ 0) ⌝ }
+    {
+        Reader { file, at: 0 }
+    }
 
-// The next bits, as many as the width says: the position moves by as many.
-pub fn take<'s, 'a>(r: &'s mut Reader<'a>, width: usize) -> u64
-    requires { ⌜ (now r .at + width ≤ length (now (now r .file)) * 8) × (now r .at + width < 2 ^ 64) × (width ≤ 64) ⌝ }
-    ensures { λ v. ⌜ (v ≡ bits (now (now (r .entry) .file)) (now (r .entry) .at) width) × (v < 2 ^ width) × (now (r .exit) .file ≡ now (r .entry) .file) × (now (r .exit) .at ≡ now (r .entry) .at + width) ⌝ }
-{
-    let value = bits(r.file, r.at, width);
-    r.at = r.at + width;
-    value
+    // The next bits, as many as the width says: the position moves by as many.
+    pub fn take<'s>(&'s mut self, width: usize) -> u64
+        requires { ⌜ (now self .at + width ≤ length (now (now self .file)) * 8) × (now self .at + width < 2 ^ 64) × (width ≤ 64) ⌝ }
+        ensures { λ v. ⌜ (v ≡ bits (now (now (self .entry) .file)) (now (self .entry) .at) width) × (v < 2 ^ width) × (now (self .exit) .file ≡ now (self .entry) .file) × (now (self .exit) .at ≡ now (self .entry) .at + width) ⌝ }
+    {
+        let value = bits(self.file, self.at, width);
+        self.at = self.at + width;
+        value
+    }
 }
 
 // The bits from a position on, by a reader that is put there.
@@ -33,5 +35,5 @@ pub fn bits_from(file: &[u8], at: usize, width: usize) -> u64
     ensures { λ r. ⌜ (r ≡ bits (now (file .entry)) at width) × (r < 2 ^ width) ⌝ }
 {
     let mut r = Reader { file, at };
-    take(&mut r, width)
+    r.take(width)
 }

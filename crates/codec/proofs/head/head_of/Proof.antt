@@ -47,13 +47,13 @@ use Rattle.codec.proofs.head.HeadBits as S
 use Rattle.codec.proofs.head.HeadBits.Laws as S′
 use Rattle.codec.proofs.reader.Reader as T
 use Rattle.codec.proofs.reader.Reader.Laws as T′
-use Rattle.codec.proofs.reader.new as new
-use Rattle.codec.proofs.reader.new.Symbol as new-def
-use Rattle.codec.proofs.reader.new.Symbol.{name as #new}
-use Rattle.codec.proofs.reader.new.Met as new-thm
-use Rattle.codec.proofs.reader.take.Symbol as take-def
-use Rattle.codec.proofs.reader.take.Symbol.{name as #take}
-use Rattle.codec.proofs.reader.take.Met as take-thm
+use Rattle.codec.proofs.reader.Reader.new as new
+use Rattle.codec.proofs.reader.Reader.new.Symbol as new-def
+use Rattle.codec.proofs.reader.Reader.new.Symbol.{name as #new}
+use Rattle.codec.proofs.reader.Reader.new.Met as new-thm
+use Rattle.codec.proofs.reader.Reader.take.Symbol as take-def
+use Rattle.codec.proofs.reader.Reader.take.Symbol.{name as #take}
+use Rattle.codec.proofs.reader.Reader.take.Met as take-thm
 use Rattle.codec.proofs.head.head_of.Key.{name as #head-of}
 use Rattle.codec.proofs.head.head_of as head-of
 use Rattle.codec.proofs.head.head_of.Statement as stated
@@ -182,5 +182,5 @@ head-of-spec 𝓤 H 𝓜 𝓖 𝓡 =
     entered 𝓤 H (tripleOf 𝓤 H (𝓖 .A) head-of.signature (head-of.spec 𝓤 H (𝓖 .A) (𝓜 .mem) (𝓡 .run)))
     (tables 𝓤 H 𝓜 𝓡 code.env .C) (tables 𝓤 H 𝓜 𝓡 code.env .Λ) #head-of code.function (code.unfolded 𝓤 H 𝓜 𝓡)
     (head-of-meets 𝓤 H (𝓖 .A) (givenOf 𝓤 H 𝓜 𝓖) (𝓜 .mem) (𝓡 .run) (tablesOf 𝓤 H 𝓜 (tables 𝓤 H 𝓜 𝓡 code.env))
-    (cited 𝓤 H (New 𝓤 H (𝓖 .A) (𝓜 .mem) (𝓡 .run)) 𝓜 𝓡 code.env #new new-def.routine code.calls-codec·reader·new (new-thm.met 𝓤 H 𝓜 𝓖 𝓡))
-    (cited 𝓤 H (Take 𝓤 H (𝓖 .A) (𝓜 .mem) (𝓡 .run)) 𝓜 𝓡 code.env #take take-def.routine code.calls-codec·reader·take (take-thm.met 𝓤 H 𝓜 𝓖 𝓡)))
+    (cited 𝓤 H (New 𝓤 H (𝓖 .A) (𝓜 .mem) (𝓡 .run)) 𝓜 𝓡 code.env #new new-def.routine code.calls-codec·reader·Reader·new (new-thm.met 𝓤 H 𝓜 𝓖 𝓡))
+    (cited 𝓤 H (Take 𝓤 H (𝓖 .A) (𝓜 .mem) (𝓡 .run)) 𝓜 𝓡 code.env #take take-def.routine code.calls-codec·reader·Reader·take (take-thm.met 𝓤 H 𝓜 𝓖 𝓡)))

@@ -41,9 +41,9 @@ use Rattle.codec.proofs.Laws.Bits.{bits-below}
 use Rattle.codec.proofs.Lent.{Take, Asked, calls-take}
 use Rattle.codec.proofs.reader.Reader as T
 use Rattle.codec.proofs.reader.Reader.Laws as T′
-use Rattle.codec.proofs.reader.take.Symbol as take-def
-use Rattle.codec.proofs.reader.take.Symbol.{name as #take}
-use Rattle.codec.proofs.reader.take.Met as take-thm
+use Rattle.codec.proofs.reader.Reader.take.Symbol as take-def
+use Rattle.codec.proofs.reader.Reader.take.Symbol.{name as #take}
+use Rattle.codec.proofs.reader.Reader.take.Met as take-thm
 use Rattle.codec.proofs.reader.bits_from.Key.{name as #bits-from}
 use Rattle.codec.proofs.reader.bits_from as bits-from
 use Rattle.codec.proofs.reader.bits_from.Statement as stated
@@ -132,4 +132,4 @@ bits-from-spec 𝓤 H 𝓜 𝓖 𝓡 =
     entered 𝓤 H (tripleOf 𝓤 H (𝓖 .A) bits-from.signature (bits-from.spec 𝓤 H (𝓖 .A) (𝓜 .mem) (𝓡 .run)))
     (tables 𝓤 H 𝓜 𝓡 code.env .C) (tables 𝓤 H 𝓜 𝓡 code.env .Λ) #bits-from code.function (code.unfolded 𝓤 H 𝓜 𝓡)
     (bits-from-meets 𝓤 H (𝓖 .A) (givenOf 𝓤 H 𝓜 𝓖) (𝓜 .mem) (𝓡 .run) (tablesOf 𝓤 H 𝓜 (tables 𝓤 H 𝓜 𝓡 code.env))
-    (cited 𝓤 H (Take 𝓤 H (𝓖 .A) (𝓜 .mem) (𝓡 .run)) 𝓜 𝓡 code.env #take take-def.routine code.calls-codec·reader·take (take-thm.met 𝓤 H 𝓜 𝓖 𝓡)))
+    (cited 𝓤 H (Take 𝓤 H (𝓖 .A) (𝓜 .mem) (𝓡 .run)) 𝓜 𝓡 code.env #take take-def.routine code.calls-codec·reader·Reader·take (take-thm.met 𝓤 H 𝓜 𝓖 𝓡)))

@@ -1,4 +1,4 @@
--- `codec::reader::take` meets its contract: a walk of its MIR. The borrow of the reader is opened, `bits` is called on a copy of the slice that the reader holds, the position is stored anew, and the borrow is closed at the reader that has moved.
+-- `codec::reader::Reader::take` meets its contract: a walk of its MIR. The borrow of the reader is opened, `bits` is called on a copy of the slice that the reader holds, the position is stored anew, and the borrow is closed at the reader that has moved.
 -- All that the proof knows of `bits` is that it meets its contract.
 -- Assumes nothing.
 use mathlib.Core.Path.{_≡_, refl}
@@ -51,10 +51,10 @@ use Rattle.codec.proofs.bits.bits as of-bits
 use Rattle.codec.proofs.bits.bits.Symbol as bits-def
 use Rattle.codec.proofs.bits.bits.Symbol.{name as #bits}
 use Rattle.codec.proofs.bits.bits.Met as bits-thm
-use Rattle.codec.proofs.reader.take.Key.{name as #take}
-use Rattle.codec.proofs.reader.take as take
-use Rattle.codec.proofs.reader.take.Statement as stated
-use Rattle.codec.proofs.reader.take.Code as code
+use Rattle.codec.proofs.reader.Reader.take.Key.{name as #take}
+use Rattle.codec.proofs.reader.Reader.take as take
+use Rattle.codec.proofs.reader.Reader.take.Statement as stated
+use Rattle.codec.proofs.reader.Reader.take.Code as code
 
 -- `Reader<'a>`, as the place behind the reference in the signature
 abbrev behind : Slot 2

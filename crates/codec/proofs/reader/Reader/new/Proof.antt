@@ -1,4 +1,4 @@
--- `codec::reader::new` meets its contract: a walk of its MIR. The struct is made in the result's local, of the lent slice and 0.
+-- `codec::reader::Reader::new` meets its contract: a walk of its MIR. The struct is made in the result's local, of the lent slice and 0.
 -- What the slice owns is had twice: once for the parameter at exit, and once inside the reader.
 -- Assumes nothing.
 use mathlib.Core.Path.{refl}
@@ -38,10 +38,10 @@ use denote.Exit.{yes}
 use Rattle.codec.specs.declared.reader.Reader.{Reader}
 use Rattle.codec.proofs.reader.Reader as T
 use Rattle.codec.proofs.reader.Reader.Laws as T′
-use Rattle.codec.proofs.reader.new.Key.{name as #new}
-use Rattle.codec.proofs.reader.new as new
-use Rattle.codec.proofs.reader.new.Statement as stated
-use Rattle.codec.proofs.reader.new.Code as code
+use Rattle.codec.proofs.reader.Reader.new.Key.{name as #new}
+use Rattle.codec.proofs.reader.Reader.new as new
+use Rattle.codec.proofs.reader.Reader.new.Statement as stated
+use Rattle.codec.proofs.reader.Reader.new.Code as code
 
 abbrev stayed : Stays (new.ended .signature .params) (new.ended .kept)
 stayed = (stay-none-slice (0 ∷ []) tt (plain (λ _. u8)) yes, tt)
