@@ -2,7 +2,7 @@
 use mathlib.Core.Path.{_≡_, refl, sym, ap, _∙_}
 use mathlib.Core.Bool.{Bool, true, false, cond, not}
 use mathlib.Core.List.{List, [], _∷_, _++_}
-use Prim.Native.Nat.{ℕ, _+_, _-_, _*_, _/_, _≤_, zero-le}
+use Prim.Native.Nat.{ℕ, _+_, _-_, _/_, _≤_}
 use native.Mathlib.Omega.{arith}
 use borrow.Author.Tests.{eq-eqb, ne-eqb, eqb-true, eqb-false, not-true, not-false}
 use lib.Dec.{eqb}
@@ -14,7 +14,7 @@ use Rattle.codec.specs.Ring.{count, limit, addressesOf, ringRefusal, filled, ri
 use Rattle.codec.specs.declared.ring.Ring.{Ring}
 use Rattle.codec.specs.declared.ring.RingRead.{RingRead}
 use Rattle.codec.proofs.Laws.Bits.{bits-below}
-use Rattle.codec.proofs.Laws.Ring.{HeadGood, head-good, head-passed, read-zero, read-good, read-refused, few-members, length-addresses, members-filled, members-laid}
+use Rattle.codec.proofs.Laws.Ring.{read-zero, read-good, read-refused, few-members, length-addresses, members-filled, members-laid}
 use Rattle.wholeness.specs.Whole.{whole}
 use Rattle.station.specs.declared.station.Station.{Station}
 use Rattle.records.specs.Layout.{recordLength, ringRoom}
@@ -165,13 +165,12 @@ module _ (s : List ℕ) (end k : ℕ) (l addresses : List ℕ) (sized : length s
         record { sized = sized; good-ring = ap (λ (r : RingRead). r .number) (read-good file (sym refusal-is ∙ z)); good-fields = f } in
         let size : (end - 2) / 6 ≡ count s = omega (arith, ends) in
         let laid-over : addresses ≡ laid l 0 (addressesOf file (count s)) =
-        read .1 z ∙ ap (λ (e : ℕ). laid l 0 (addressesOf (take e s) (count (take e s)))) ends ∙ ap (λ (n : ℕ). laid l 0 (addressesOf file n)) (file-count s g) in
-        (
+        read .1 z ∙ ap (λ (e : ℕ). laid l 0 (addressesOf (take e s) (count (take e s)))) ends ∙ ap (λ (n : ℕ). laid l 0 (addressesOf file n)) (file-count s g) in (
           size ∙ sym (ring-count s g) ∙ sym (ap (λ (r : Ring). r .n) (good-ring-is s g)),
           ap (λ (n : ℕ). take n addresses) size
-          ∙ members-laid file l addresses (count s) laid-over
-          ∙ sym (good-members s g)
-          ∙ ap (λ (n : ℕ). take n (goodRing s .addresses)) (sym size),
+              ∙ members-laid file l addresses (count s) laid-over
+              ∙ sym (good-members s g)
+              ∙ ap (λ (n : ℕ). take n (goodRing s .addresses)) (sym size),
         )
 
 -- ---- what a reader holds that took the checks in turn

@@ -1,6 +1,6 @@
 -- `ring::addresses_into` meets its contract. The loop's invariant: the addresses read so far are laid over the array.
 use mathlib.Core.Path.{_≡_, refl, sym, ap, _∙_}
-use Prim.Native.Nat.{ℕ, _+_, _-_, _*_, _<_, _≤_}
+use Prim.Native.Nat.{_-_, _≤_}
 use native.Mathlib.Omega.{arith}
 use lib.ListN.{length, set, length-set}
 use Rattle.codec.specs.Octets.{laid}
@@ -48,7 +48,7 @@ loop-again c =
       omega arith,
       simp length-set (l .inv .1),
       ap (set (l .addresses) (l .i)) (c .bits .ensures .0)
-      ∙ addresses-more-laid (a .file .now) (a .addresses .now) (l .addresses) (l .i) (omega arith) (l .inv .2),
+          ∙ addresses-more-laid (a .file .now) (a .addresses .now) (l .addresses) (l .i) (omega arith) (l .inv .2),
     )
 
 same-length : tie.Need-same-length Inv-loop μ-loop

@@ -1,6 +1,6 @@
 -- `ring::read_into` meets its contract: a head that passes says what the calls require, and the refusals are those of the one order.
-use mathlib.Core.Path.{_≡_, refl, sym, ap, _∙_}
-use Prim.Native.Nat.{ℕ, _+_, _*_, _^_, _<_, _≤_}
+use mathlib.Core.Path.{_≡_, sym, ap, _∙_}
+use Prim.Native.Nat.{ℕ, _+_}
 use native.Mathlib.Omega.{arith}
 use borrow.Author.Needs.{needs}
 use Rattle.codec.specs.Octets.{laid}
@@ -58,10 +58,10 @@ returns-2 c =
     let l = b .before .before .before .before .before .args .addresses .now in
     let n : b .bits .result + 1 ≡ count file = ap (λ (k : ℕ). k + 1) (b .bits .ensures .0) in (
       read-steps file l (b .bits .result + 1) (c .addresses-refusal .result) (a .addresses-into .last .1 .1 .0)
-      (sym (b .before .before .head-refusal .ensures) ∙ b .before .if1 .left)
-      n
-      (a .addresses-into .ensures)
-      (c .addresses-refusal .ensures ∙ ap addressesRefusal (m .members .ensures)),
+          (sym (b .before .before .head-refusal .ensures) ∙ b .before .if1 .left)
+          n
+          (a .addresses-into .ensures)
+          (c .addresses-refusal .ensures ∙ ap addressesRefusal (m .members .ensures)),
       λ z. a .addresses-into .ensures ∙ ap (λ (k : ℕ). laid l 0 (addressesOf file k)) n,
     )
 
