@@ -1,4 +1,5 @@
 pub mod Tables
 pub mod Flags
+pub mod Rest
 pub mod Load
 pub mod Sizes
