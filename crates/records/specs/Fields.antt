@@ -1,14 +1,15 @@
 -- The record's fields: what a number in it stands for, and the number that stands for it. A field is good where writing what it is
 -- read as gives it back.
-use Prim.Native.Nat.{ℕ, zero, suc, _+_, _-_, _*_, max}
+use Prim.Native.Nat.{ℕ, zero, suc, _+_, _-_, _*_, min, max}
 use mathlib.Core.Bool.{Bool, true, false, not}
 use mathlib.Core.List.{List, [], _∷_, _++_}
 use lib.Dec.{ltb, leb, eqb}
-use lib.ListN.{replicate}
-use Rattle.codec.specs.Octets.{octets, numberAt}
+use lib.ListN.{replicate, drop}
+use Rattle.codec.specs.Octets.{octets, numberAt, firstNonzero}
 use Rattle.parts.specs.Choose.{pick, allOf}
 use Rattle.parts.specs.Moves.{stateNumber}
-use Rattle.records.specs.Layout.{handledAt, handledNumberAt, stateAt, retriesAt, awaitedAt, toIn, numberIn, priorityIn, masterIn, failingIn, namedIn, channelIn, placeIn, lengthIn, itemsIn, messagePriorityIn, messageChannelIn, messagePlaceIn, messageLengthIn, messageLength, liveAt}
+use Rattle.parts.specs.Messages.{blank}
+use Rattle.records.specs.Layout.{handledAt, handledNumberAt, stateAt, retriesAt, awaitedAt, toIn, numberIn, priorityIn, masterIn, failingIn, namedIn, channelIn, placeIn, lengthIn, itemsIn, messagePriorityIn, messageChannelIn, messagePlaceIn, messageLengthIn, messageLength, listLength, liveAt}
 use Rattle.records.specs.Tables.{tab, joined}
 use Rattle.records.specs.declared.slip.Slip.{Slip}
 use Rattle.parts.specs.declared.moves.State.{State}
@@ -231,6 +232,22 @@ itemsAt s at = tab (itemAt s at) 16
 
 abbrev pub messagesAt : List ℕ → ℕ → Messages
 messagesAt s at = record { items = itemsAt s (at + itemsIn); len = numberAt s at 1 }
+
+-- how many messages it holds: 16 where it says more
+abbrev pub countAt : List ℕ → ℕ → ℕ
+countAt s at = min 16 (numberAt s at 1)
+
+-- the first k messages, then blanks
+abbrev pub firstItems : List ℕ → ℕ → ℕ → List Message
+firstItems s at k = tab (itemAt s at) k ++ drop k (replicate 16 blank)
+
+-- where its messages end
+abbrev pub restAt : List ℕ → ℕ → ℕ
+restAt s at = at + itemsIn + countAt s at * messageLength
+
+-- only zeros follow them
+unfoldable pub restGood : List ℕ → ℕ → Bool
+restGood s at = eqb (firstNonzero s (restAt s at) (at + listLength - restAt s at)) (at + listLength)
 
 abbrev pub itemsOctets : List Message → List ℕ
 itemsOctets ms = joined messageOctets ms

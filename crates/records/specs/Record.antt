@@ -15,7 +15,7 @@ use Rattle.station.specs.Stations.{made}
 use Rattle.wholeness.specs.Whole.{whole}
 use Rattle.station.specs.declared.station.Station.{Station}
 use Rattle.records.specs.Layout.{ringRoom, ownAt, lostAt, givenUpAt, liveAt, sendsAt, receivesAt, recordLength}
-use Rattle.records.specs.Fields.{turnAt, turnGood, turnOctets, liveFrom, flagsGood, liveOctets, messagesAt, messagesOctets}
+use Rattle.records.specs.Fields.{turnAt, turnGood, turnOctets, liveFrom, flagsGood, liveOctets, restGood, messagesAt, messagesOctets}
 
 -- ---- the octets
 
@@ -73,12 +73,17 @@ stationOf s = stationFrom s (ringFrom s .ring .n) (ringFrom s .ring .limit)
 unfoldable pub fieldsGood : List ℕ → Bool
 fieldsGood s = allOf (padGood s ∷ turnGood s ∷ flagsGood s liveAt 64 ∷ [])
 
+-- only zeros follow the messages of each list: so it is in every whole record
+unfoldable pub restsGood : List ℕ → Bool
+restsGood s = allOf (restGood s sendsAt ∷ restGood s receivesAt ∷ [])
+
 -- the ring of a record whose octets are good, whatever its station; without members where they are not
 unfoldable pub goodRing : List ℕ → Ring
 goodRing s =
     firstOf (ringFrom s .ring)
     ((not (eqb (length s) recordLength), noRing 0 .ring)
     ∷ (not (fieldsGood s), noRing 0 .ring)
+    ∷ (not (restsGood s), noRing 0 .ring)
     ∷ [])
 
 -- what reading a record gives: the station and its ring, or that the record is not whole

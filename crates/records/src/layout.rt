@@ -53,6 +53,8 @@ pub const LENGTH_IN: usize = 11;
 // In a list: how many messages, then 16 of them.
 pub const ITEMS_IN: usize = 1;
 
+pub const LIST: usize = 97;
+
 // In a message.
 pub const MESSAGE_PRIORITY_IN: usize = 1;
 

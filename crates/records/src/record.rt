@@ -1,5 +1,6 @@
 // The record: a station of a ring in octets that a driver lends.
 ghost use mathlib.Core.Path.{_≡_};
+ghost use mathlib.Core.Bool.{true};
 ghost use mathlib.Core.List.{_++_};
 ghost use Prim.Native.Nat.{_+_, _≤_};
 ghost use lib.ListN.{length, take};
@@ -18,6 +19,7 @@ ghost use Rattle.records.specs.Record.{
   padGood,
   stationFrom,
   fieldsGood,
+  restsGood,
   goodRing,
 };
 use crate::fields::put_two;
@@ -30,6 +32,7 @@ use crate::layout::RING_ROOM;
 use crate::layout::SENDS;
 use crate::lists::messages_at;
 use crate::lists::put_messages;
+use crate::lists::rest_good;
 use crate::live::flags_good;
 use crate::live::live_from;
 use crate::live::put_live;
@@ -77,6 +80,17 @@ pub fn fields_good(s: &[u8]) -> bool
     flags_good(s)
 }
 
+// Whether only zeros follow the messages of each list. A record where it is not so is not whole.
+pub fn rests_good(s: &[u8]) -> bool
+    requires { ⌜ recordLength ≤ length (now s) ⌝ }
+    ensures { λ r. ⌜ r ≡ restsGood (now (s .entry)) ⌝ }
+{
+    if !rest_good(s, SENDS) {
+        return false;
+    }
+    rest_good(s, RECEIVES)
+}
+
 // Reads the ring of a record over the start of an array and gives how many members it has: 0 where an
 // octet of the record is not good.
 pub fn ring_into(s: &[u8], addresses: &mut [u64]) -> usize
@@ -93,12 +107,15 @@ pub fn ring_into(s: &[u8], addresses: &mut [u64]) -> usize
     if !fields_good(s) {
         return 0;
     }
+    if !rests_good(s) {
+        return 0;
+    }
     (end - 2) / 6
 }
 
 // The station that the fields give, of a ring of `n`.
 pub fn station_from(s: &[u8], n: usize) -> Station
-    requires { ⌜ (recordLength ≤ length (now s)) × (n ≤ 64) ⌝ }
+    requires { ⌜ (recordLength ≤ length (now s)) × (n ≤ 64) × (restsGood (now s) ≡ true) ⌝ }
     ensures { λ r. ⌜ r ≡ stationFrom (now (s .entry)) n (limit (now (s .entry))) ⌝ }
 {
     let live = live_from(s);

@@ -7,13 +7,12 @@ use native.Mathlib.Numerals.{add-one, unary-clauses}
 use native.Mathlib.Omega.{arith}
 use borrow.Author.Tests.{ltb-false, eqb-true, eqb-false, not-false, ne-eqb}
 use lib.Dec.{eqb}
-use lib.ListN.{length, take, drop, getD, set, replicate, length-append, drop-of-length-le}
-use lib.Seq.{take-suc, drop-cons, set-at, take-at, append-snoc}
+use lib.ListN.{length, take, drop, getD, set, length-append, drop-of-length-le}
+use lib.Seq.{take-suc, drop-cons, take-at}
 use Rattle.codec.specs.Order.{firstOf}
 use Rattle.codec.specs.Octets.{laid, zeros}
 use Rattle.codec.specs.Bits.{bits}
 use Rattle.codec.specs.Ring.{form, others, count, limit, zeroBits, addressesOf, headTests, addressTests, addressesTests, headRefusal, addressRefusal, addressesRefusal, ringRefusal, filled, ringOf, noRing, readRing}
-use Rattle.codec.specs.declared.ring.RingRead.{RingRead}
 use Rattle.codec.proofs.Laws.Bits.{bits-below}
 use Rattle.codec.proofs.Laws.Octets.{laid-behind, laid-start}
 use Rattle.codec.proofs.Laws.Order.{Apart, first-append, none-gives, none-holds, first-passed, first-none, first-some}

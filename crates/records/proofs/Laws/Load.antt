@@ -2,7 +2,7 @@
 use mathlib.Core.Path.{_≡_, refl, sym, ap, _∙_}
 use mathlib.Core.Bool.{Bool, true, false, cond, not}
 use mathlib.Core.List.{List, [], _∷_, _++_}
-use Prim.Native.Nat.{ℕ, _+_, _-_, _*_, _/_, _≤_, zero-le}
+use Prim.Native.Nat.{ℕ, _+_, _-_, _/_, _≤_}
 use native.Mathlib.Omega.{arith}
 use borrow.Author.Tests.{eq-eqb, ne-eqb, eqb-true, eqb-false, not-true, not-false}
 use lib.Dec.{eqb}
@@ -14,11 +14,12 @@ use Rattle.codec.specs.Ring.{count, limit, addressesOf, ringRefusal, filled, ri
 use Rattle.codec.specs.declared.ring.Ring.{Ring}
 use Rattle.codec.specs.declared.ring.RingRead.{RingRead}
 use Rattle.codec.proofs.Laws.Bits.{bits-below}
-use Rattle.codec.proofs.Laws.Ring.{HeadGood, head-good, head-passed, read-zero, read-good, read-refused, few-members, length-addresses, members-filled, members-laid}
+use Rattle.codec.proofs.Laws.Ring.{read-zero, read-good, read-refused, few-members, length-addresses, members-filled, members-laid}
 use Rattle.wholeness.specs.Whole.{whole}
 use Rattle.station.specs.declared.station.Station.{Station}
 use Rattle.records.specs.Layout.{recordLength, ringRoom}
-use Rattle.records.specs.Record.{Loaded, fileLength, fileOf, ringFrom, stationFrom, stationOf, fieldsGood, goodRing, notWhole, readRecord}
+use Rattle.records.specs.Record.{Loaded, fileLength, fileOf, ringFrom, stationFrom, stationOf, fieldsGood, restsGood, goodRing, notWhole, readRecord}
+use Rattle.records.proofs.Laws.Rest.{whole-rests}
 
 abbrev pub wholeOf : RingRead → Station → Loaded
 wholeOf r st = record { ok = true; ring = r .ring; station = st }
@@ -44,6 +45,14 @@ module _ (s : List ℕ) where
         pub station-bad : whole (stationOf s) ≡ false → readRecord s ≡ notWhole
         unfolding readRecord
         station-bad e = rw (eq-eqb (length s) recordLength sized, eq-eqb (ringFrom s .number) 0 good, fields, e)
+
+        -- what follows a list's messages: the station that it gives would not be whole
+        pub rests-bad : restsGood s ≡ false → readRecord s ≡ notWhole
+        rests-bad e = station-bad (go (whole (stationOf s)) refl)
+          where
+            go : (t : Bool) → whole (stationOf s) ≡ t → t ≡ false
+            go false w = refl
+            go true w = sym (whole-rests s sized w) ∙ e
 
         pub record-good : whole (stationOf s) ≡ true → readRecord s ≡ wholeOf (ringFrom s) (stationOf s)
         unfolding readRecord
@@ -75,6 +84,7 @@ pub record GoodOctets (s : List ℕ) : Type 0 where
   pub sized : length s ≡ recordLength
   pub good-ring : ringFrom s .number ≡ 0
   pub good-fields : fieldsGood s ≡ true
+  pub good-rests : restsGood s ≡ true
 
 -- a ring with members has no refusal
 with-members : (file : List ℕ) → (readRing file .ring .n ≡ 0 → ⊥) → readRing file .number ≡ 0
@@ -86,18 +96,20 @@ with-members file some = go (eqb (ringRefusal file) 0) refl
 
 pub good-octets : (s : List ℕ) → (goodRing s .n ≡ 0 → ⊥) → GoodOctets s
 unfolding goodRing
-good-octets s some = go (eqb (length s) recordLength) (fieldsGood s) refl refl some
+good-octets s some = go (eqb (length s) recordLength) (fieldsGood s) (restsGood s) refl refl refl some
   where
-    go : (a b : Bool) → eqb (length s) recordLength ≡ a → fieldsGood s ≡ b
-        → (cond (not a) (noRing 0 .ring) (cond (not b) (noRing 0 .ring) (ringFrom s .ring)) .n ≡ 0 → ⊥) → GoodOctets s
-    go true true ea eb n = record { sized = eqb-true _ _ ea; good-ring = with-members (fileOf s) n; good-fields = eb }
-    go true false ea eb n = absurd (n refl)
-    go false b ea eb n = absurd (n refl)
+    go : (a b d : Bool) → eqb (length s) recordLength ≡ a → fieldsGood s ≡ b → restsGood s ≡ d
+        → (cond (not a) (noRing 0 .ring) (cond (not b) (noRing 0 .ring) (cond (not d) (noRing 0 .ring) (ringFrom s .ring))) .n ≡ 0 → ⊥) → GoodOctets s
+    go true true true ea eb ed n =
+        record { sized = eqb-true _ _ ea; good-ring = with-members (fileOf s) n; good-fields = eb; good-rests = ed }
+    go true true false ea eb ed n = absurd (n refl)
+    go true false d ea eb ed n = absurd (n refl)
+    go false b d ea eb ed n = absurd (n refl)
 
 module _ (s : List ℕ) (g : GoodOctets s) where
   pub good-ring-is : goodRing s ≡ ringFrom s .ring
   unfolding goodRing
-  good-ring-is = rw (eq-eqb (length s) recordLength (g .sized), g .good-fields)
+  good-ring-is = rw (eq-eqb (length s) recordLength (g .sized), g .good-fields, g .good-rests)
 
   ring-read : ringFrom s ≡ record { number = 0; ring = ringOf (fileOf s) }
   ring-read = read-good (fileOf s) (read-zero (fileOf s) (g .good-ring))
@@ -158,11 +170,15 @@ module _ (s : List ℕ) (end k : ℕ) (l addresses : List ℕ) (sized : length s
     unfolding goodRing
     fields-none e = rw (eq-eqb (length s) recordLength sized, e)
 
-    pub all-read : k ≡ 0 → fieldsGood s ≡ true → ((end - 2) / 6 ≡ goodRing s .n) × (take ((end - 2) / 6) addresses ≡ take ((end - 2) / 6) (goodRing s .addresses))
-    all-read z f =
+    pub rests-none : fieldsGood s ≡ true → restsGood s ≡ false → goodRing s .n ≡ 0
+    unfolding goodRing
+    rests-none f e = rw (eq-eqb (length s) recordLength sized, f, e)
+
+    pub all-read : k ≡ 0 → fieldsGood s ≡ true → restsGood s ≡ true → ((end - 2) / 6 ≡ goodRing s .n) × (take ((end - 2) / 6) addresses ≡ take ((end - 2) / 6) (goodRing s .addresses))
+    all-read z f t =
         let file : List ℕ = fileOf s in
         let g : GoodOctets s =
-        record { sized = sized; good-ring = ap (λ (r : RingRead). r .number) (read-good file (sym refusal-is ∙ z)); good-fields = f } in
+        record { sized = sized; good-ring = ap (λ (r : RingRead). r .number) (read-good file (sym refusal-is ∙ z)); good-fields = f; good-rests = t } in
         let size : (end - 2) / 6 ≡ count s = omega (arith, ends) in
         let laid-over : addresses ≡ laid l 0 (addressesOf file (count s)) =
         read .1 z ∙ ap (λ (e : ℕ). laid l 0 (addressesOf (take e s) (count (take e s)))) ends ∙ ap (λ (n : ℕ). laid l 0 (addressesOf file n)) (file-count s g) in (
@@ -177,14 +193,16 @@ module _ (s : List ℕ) (end k : ℕ) (l addresses : List ℕ) (sized : length s
 
 -- a record without members in its good ring is not whole
 pub none-good : (s : List ℕ) → goodRing s .n ≡ 0 → readRecord s .ok ≡ false
-none-good s z = go (eqb (length s) recordLength) (eqb (ringFrom s .number) 0) (fieldsGood s) refl refl refl
+none-good s z = go (eqb (length s) recordLength) (eqb (ringFrom s .number) 0) (fieldsGood s) (restsGood s) refl refl refl refl
   where
-    go : (a b d : Bool) → eqb (length s) recordLength ≡ a → eqb (ringFrom s .number) 0 ≡ b → fieldsGood s ≡ d → readRecord s .ok ≡ false
-    go false b d ea eb ed = ap (λ (l : Loaded). l .ok) (length-bad s (eqb-false _ _ ea))
-    go true false d ea eb ed = ap (λ (l : Loaded). l .ok) (ring-bad s (eqb-true _ _ ea) (eqb-false _ _ eb))
-    go true true false ea eb ed = ap (λ (l : Loaded). l .ok) (fields-bad s (eqb-true _ _ ea) (eqb-true _ _ eb) ed)
-    go true true true ea eb ed =
-        absurd (some-members s (record { sized = eqb-true _ _ ea; good-ring = eqb-true _ _ eb; good-fields = ed }) z)
+    go : (a b d t : Bool) → eqb (length s) recordLength ≡ a → eqb (ringFrom s .number) 0 ≡ b → fieldsGood s ≡ d → restsGood s ≡ t
+        → readRecord s .ok ≡ false
+    go false b d t ea eb ed et = ap (λ (l : Loaded). l .ok) (length-bad s (eqb-false _ _ ea))
+    go true false d t ea eb ed et = ap (λ (l : Loaded). l .ok) (ring-bad s (eqb-true _ _ ea) (eqb-false _ _ eb))
+    go true true false t ea eb ed et = ap (λ (l : Loaded). l .ok) (fields-bad s (eqb-true _ _ ea) (eqb-true _ _ eb) ed)
+    go true true true false ea eb ed et = ap (λ (l : Loaded). l .ok) (rests-bad s (eqb-true _ _ ea) (eqb-true _ _ eb) ed et)
+    go true true true true ea eb ed et =
+        absurd (some-members s (record { sized = eqb-true _ _ ea; good-ring = eqb-true _ _ eb; good-fields = ed; good-rests = et }) z)
 
 -- the ring and the station of a whole record, as n members in an array and a station
 pub record Held (s addresses : List ℕ) (n : ℕ) (st : Station) : Type 0 where
@@ -202,14 +220,17 @@ module _ (s addresses : List ℕ) (n : ℕ) (read : (n ≡ goodRing s .n) × (ta
     good : GoodOctets s
     good = good-octets s (λ z. some (read .0 ∙ z))
 
-    pub good-sized : length s ≡ recordLength
-    good-sized = good .sized
-
     size : n ≡ ringFrom s .ring .n
     size = read .0 ∙ ap (λ (r : Ring). r .n) (good-ring-is s good)
 
-    pub good-few : n ≤ 64
+    good-few : n ≤ 64
     good-few = rw size (few-members (fileOf s))
+
+    -- what reading its station requires
+    pub good-enough : (recordLength ≤ length s) × (n ≤ 64) × (restsGood s ≡ true)
+    good-enough =
+        let h : length s ≡ recordLength = good .sized in
+        (omega arith, good-few, good .good-rests)
 
     module _ (st : Station) (w : Bool) (from : st ≡ stationFrom s n (limit s)) (asked : w ≡ whole st) where
       station-is : st ≡ stationOf s

@@ -1,6 +1,6 @@
 -- `ring::addresses_into` meets its contract. The loop's invariant: the addresses read so far are laid over the array.
 use mathlib.Core.Path.{_≡_, refl, sym, ap, _∙_}
-use Prim.Native.Nat.{ℕ, _+_, _-_, _*_, _<_, _≤_}
+use Prim.Native.Nat.{_-_, _≤_}
 use native.Mathlib.Omega.{arith}
 use lib.ListN.{length, set, length-set}
 use Rattle.codec.specs.Octets.{laid}

@@ -1,6 +1,6 @@
 -- `ring::read` meets its contract: a file without a refusal is read over zeros, which gives its addresses and then zeros.
-use mathlib.Core.Path.{_≡_, refl, sym, ap, _∙_}
-use Prim.Native.Nat.{ℕ, _+_, _*_, _^_, _<_, _≤_}
+use mathlib.Core.Path.{_≡_, sym, ap, _∙_}
+use Prim.Native.Nat.{ℕ, _+_}
 use native.Mathlib.Omega.{arith}
 use borrow.Author.Needs.{needs}
 use Rattle.codec.specs.Ring.{count, addressesOf, ringRefusal, filled, ringOf}

@@ -9,7 +9,7 @@ use Rattle.parts.specs.Messages.{blank}
 use Rattle.parts.specs.declared.list.Message.{Message}
 use Rattle.records.specs.Tables.{tab}
 use Rattle.records.specs.Fields.{itemAt}
-use Rattle.records.proofs.Laws.Tables.{tab-none, tab-more, tab-all}
+use Rattle.records.proofs.Laws.Tables.{tab-none, tab-more}
 use Rattle.records.proofs.lists.items_at.Statement.{statement}
 use Rattle.records.proofs.lists.items_at.Tie as tie
 
@@ -17,10 +17,10 @@ abbrev blanks : List Message
 blanks = replicate 16 blank
 
 abbrev Inv-loop : tie.InvT-loop
-Inv-loop s at items₀ i₀ items i = (i ≤ 16) × (items ≡ tab (itemAt s at) i ++ drop i items₀)
+Inv-loop s at k items₀ i₀ items i = (i ≤ k) × (items ≡ tab (itemAt s at) i ++ drop i items₀)
 
 abbrev μ-loop : tie.MeasureT-loop
-μ-loop s at items₀ i₀ items i = 16 - i
+μ-loop s at k items₀ i₀ items i = k - i
 
 loop-holds : tie.Need-loop-holds Inv-loop μ-loop
 loop-holds c = (omega arith, tab-none (itemAt (c .before .args .s .now) (c .before .args .at)) blanks)
@@ -50,13 +50,15 @@ loop-again : tie.Need-loop-again Inv-loop μ-loop
 loop-again c =
     let l = c .before .before .loop in
     let a = c .before .before .before .before .args in
-    (omega arith, tab-more (itemAt (a .s .now) (a .at)) blanks (l .items) (c .message-at .result) (l .i) blank (c .before .loop-test .taken) (l .inv .1) (c .message-at .ensures))
+    let less : l .i < 16 = omega arith in
+    (omega arith, tab-more (itemAt (a .s .now) (a .at)) blanks (l .items) (c .message-at .result) (l .i) blank less (l .inv .1) (c .message-at .ensures))
 
 returns : tie.Need-returns Inv-loop μ-loop
 returns c =
     let l = c .before .loop in
     let a = c .before .before .before .args in
-    tab-all (itemAt (a .s .now) (a .at)) blanks (l .items) (l .i) 16 (omega arith) refl (l .inv .1)
+    let end : l .i ≡ a .k = omega arith in
+    l .inv .1 ∙ ap (λ (n : ℕ). tab (itemAt (a .s .now) (a .at)) n ++ drop n blanks) end
 
 pub items-at-spec : {M : Type 1} → statement M
 items-at-spec =

@@ -1,7 +1,14 @@
--- `lists::messages_at` meets its contract.
+-- `lists::messages_at` meets its contract: the messages behind the list would be blank.
+use mathlib.Core.Path.{_≡_, refl, sym, ap, _∙_}
+use Prim.Native.Nat.{ℕ, _+_}
+use Rattle.records.specs.Fields.{firstItems}
+use Rattle.records.proofs.Laws.Rest.{rest-items}
 use borrow.Author.Needs.{needs}
 use Rattle.records.proofs.lists.messages_at.Statement.{statement}
 use Rattle.records.proofs.lists.messages_at.Tie as tie
+
+count-at-requires : tie.Need-count-at-requires
+count-at-requires c κs = search needs
 
 add-items-at : tie.Need-add-items-at
 add-items-at c = search needs
@@ -13,7 +20,11 @@ get-requires : tie.Need-get-requires
 get-requires c κs = search needs
 
 returns : tie.Need-returns
-returns c = rw (c .before .items-at .ensures, c .get .ensures .0)
+returns c =
+    let a = c .before .before .before .before .args in
+    let pre = c .before .before .before .before .pre in
+    let items = c .before .items-at .ensures ∙ ap (firstItems (a .s .now) (a .at + 1)) (c .before .before .count-at .ensures .0) ∙ rest-items (a .s .now) (a .at) (pre .0) (pre .1) in
+    rw (items, c .get .ensures .0)
 
 pub messages-at-spec : {M : Type 1} → statement M
-messages-at-spec = tie.close (tie.spec add-items-at items-at-requires get-requires returns)
+messages-at-spec = tie.close (tie.spec count-at-requires add-items-at items-at-requires get-requires returns)

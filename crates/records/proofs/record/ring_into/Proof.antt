@@ -1,9 +1,9 @@
 -- `record::ring_into` meets its contract: at each return the tests that led there say whether the octets are good.
-use mathlib.Core.Path.{_≡_, refl, sym, ap, _∙_}
+use mathlib.Core.Path.{refl, sym, _∙_}
 use native.Mathlib.Omega.{arith}
 use borrow.Author.Tests.{not-true, not-false}
 use lib.Seq.{length-take-le}
-use Rattle.records.proofs.Laws.Load.{length-none, refusal-none, fields-none, all-read}
+use Rattle.records.proofs.Laws.Load.{length-none, refusal-none, fields-none, rests-none, all-read}
 use borrow.Author.Needs.{needs}
 use Rattle.records.proofs.record.ring_into.Statement.{statement}
 use Rattle.records.proofs.record.ring_into.Tie as tie
@@ -46,18 +46,33 @@ returns-3 c =
     let s = l .before .before .before .before .args .s .now in
     (sym (fields-none s _ _ _ _ (l .before .if1 .left) (l .file-length .ensures .0) (r .read-into .ensures) (sym (c .before .fields-good .ensures) ∙ not-true _ (c .if3 .taken))), refl)
 
-sub-result : tie.Need-sub-result
-sub-result c = search needs
+rests-good-requires : tie.Need-rests-good-requires
+rests-good-requires c κs = search needs
 
 same-length-3 : tie.Need-same-length-3
 same-length-3 c = search needs
 
 returns-4 : tie.Need-returns-4
 returns-4 c =
-    let r = c .before .before .before .before .before in
+    let f = c .before .before .before in
+    let r = f .before .before .before .before in
     let l = r .before .before .before in
     let s = l .before .before .before .before .args .s .now in
-    all-read s _ _ _ _ (l .before .if1 .left) (l .file-length .ensures .0) (r .read-into .ensures) (c .before .before .if2 .left) (sym (c .before .fields-good .ensures) ∙ not-false _ (c .if3 .left))
+    (sym (rests-none s _ _ _ _ (l .before .if1 .left) (l .file-length .ensures .0) (r .read-into .ensures) (sym (f .fields-good .ensures) ∙ not-false _ (c .before .before .if3 .left)) (sym (c .before .rests-good .ensures) ∙ not-true _ (c .if4 .taken))), refl)
+
+sub-result : tie.Need-sub-result
+sub-result c = search needs
+
+same-length-4 : tie.Need-same-length-4
+same-length-4 c = search needs
+
+returns-5 : tie.Need-returns-5
+returns-5 c =
+    let f = c .before .before .before in
+    let r = f .before .before .before .before in
+    let l = r .before .before .before in
+    let s = l .before .before .before .before .args .s .now in
+    all-read s _ _ _ _ (l .before .if1 .left) (l .file-length .ensures .0) (r .read-into .ensures) (f .before .if2 .left) (sym (f .fields-good .ensures) ∙ not-false _ (c .before .before .if3 .left)) (sym (c .before .rests-good .ensures) ∙ not-false _ (c .if4 .left))
 
 pub ring-into-spec : {M : Type 1} → statement M
 ring-into-spec =
@@ -72,6 +87,9 @@ ring-into-spec =
     fields-good-requires
     same-length-2
     returns-3
-    sub-result
+    rests-good-requires
     same-length-3
-    returns-4)
+    returns-4
+    sub-result
+    same-length-4
+    returns-5)

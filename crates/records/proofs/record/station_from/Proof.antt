@@ -1,4 +1,5 @@
 -- `record::station_from` meets its contract: each field is what its octets say.
+use Rattle.records.proofs.Laws.Rest.{sends-rest, receives-rest}
 use borrow.Author.Needs.{needs}
 use Rattle.records.proofs.record.station_from.Statement.{statement}
 use Rattle.records.proofs.record.station_from.Tie as tie
@@ -7,10 +8,10 @@ live-from-requires : tie.Need-live-from-requires
 live-from-requires c κs = search needs
 
 messages-at-requires : tie.Need-messages-at-requires
-messages-at-requires c κs = search needs
+messages-at-requires c κs = (search needs, sends-rest _ (c .before .before .pre .2))
 
 messages-at-requires-2 : tie.Need-messages-at-requires-2
-messages-at-requires-2 c κs = search needs
+messages-at-requires-2 c κs = (search needs, receives-rest _ (c .before .before .before .pre .2))
 
 turn-at-requires : tie.Need-turn-at-requires
 turn-at-requires c κs = search needs

@@ -7,7 +7,7 @@ use native.Mathlib.Omega.{arith}
 use borrow.Author.Tests.{lt-ltb, le-ltb}
 use lib.ListN.{length}
 use Rattle.station.specs.Start.{startRule}
-use Rattle.records.proofs.Laws.Load.{Held, not-good, good-sized, good-few, not-whole, held}
+use Rattle.records.proofs.Laws.Load.{Held, not-good, good-enough, not-whole, held}
 use Rattle.shell.specs.Calls.{badOut}
 use Rattle.shell.proofs.Laws.Calls.{refused-9, refused-35, not-sent, station-refuses, station-sends}
 use borrow.Author.Needs.{needs}
@@ -43,8 +43,7 @@ station-from-requires : tie.Need-station-from-requires
 station-from-requires c κs =
     let e = c .before in
     let r = e .before .before .ring-into in
-    let h = good-sized (e .before .before .before .before .before .before .before .before .args .rec .now) (r .last .1 .0) (r .result) (r .ensures) (e .if2 .left) in
-    (omega (arith, h), good-few _ (r .last .1 .0) (r .result) (r .ensures) (e .if2 .left))
+    good-enough (e .before .before .before .before .before .before .before .before .args .rec .now) (r .last .1 .0) (r .result) (r .ensures) (e .if2 .left)
 
 is-whole-requires : tie.Need-is-whole-requires
 is-whole-requires c κs = search needs

@@ -3,7 +3,7 @@ use mathlib.Core.Path.{_≡_, _∙_}
 use mathlib.Core.Bool.{false}
 use native.Mathlib.Omega.{arith}
 use lib.ListN.{length}
-use Rattle.records.proofs.Laws.Load.{Held, not-good, good-sized, good-few, not-whole, held}
+use Rattle.records.proofs.Laws.Load.{Held, not-good, good-enough, not-whole, held}
 use Rattle.shell.specs.Calls.{badStore}
 use Rattle.shell.proofs.Laws.Calls.{refused-9, refused-35, refused-own, done}
 use Rattle.shell.proofs.Laws.Handing.{store-bad, store-good, take-answer, not-taken, all-taken}
@@ -40,8 +40,7 @@ station-from-requires : tie.Need-station-from-requires
 station-from-requires c κs =
     let e = c .before in
     let r = e .before .before .ring-into in
-    let h = good-sized (e .before .before .before .before .before .before .before .before .before .args .rec .now) (r .last .1 .0) (r .result) (r .ensures) (e .if2 .left) in
-    (omega (arith, h), good-few _ (r .last .1 .0) (r .result) (r .ensures) (e .if2 .left))
+    good-enough (e .before .before .before .before .before .before .before .before .before .args .rec .now) (r .last .1 .0) (r .result) (r .ensures) (e .if2 .left)
 
 is-whole-requires : tie.Need-is-whole-requires
 is-whole-requires c κs = search needs
