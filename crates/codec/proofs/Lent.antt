@@ -72,7 +72,7 @@ module _ {M : Type 1} (𝓤 : URA M) (H : Heap 𝓤) (A : Atoms 𝓤) (W : Given
   abbrev α : NamedLft
   α = record { mir = named 1; lft = κ }
 
-  abbrev pub R : RattleType
+  abbrev R : RattleType
   R = T.the-row α
 
   abbrev pub Held : Reader → Fml

@@ -5,6 +5,7 @@ ghost use lib.ListN.{length};
 ghost use Rattle.codec.specs.Ring.{headBits};
 use crate::reader::Reader;
 
+// The form number, N − 1, the retry limit and the two zero bits.
 pub struct HeadBits {
     pub form: u64,
     pub others: u64,

@@ -53,7 +53,7 @@ pub fn file_length(s: &[u8]) -> usize
     requires { ⌜ recordLength ≤ length (now s) ⌝ }
     ensures { λ r. ⌜ (r ≡ fileLength (now (s .entry))) × (r ≤ ringRoom) ⌝ }
 {
-    let more = codec::bits::bits(s, 4, 6) as usize;
+    let more = codec::reader::bits_from(s, 4, 6) as usize;
     2 + 6 * (more + 1)
 }
 

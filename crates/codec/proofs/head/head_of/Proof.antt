@@ -2,7 +2,7 @@
 -- All that the proof knows of `new` and of `take` is that each meets its contract.
 -- Assumes nothing.
 use mathlib.Core.Path.{_≡_, refl, ap}
-use Prim.Native.Nat.{ℕ, _<_, _≤_, _^_, _+_, _*_}
+use Prim.Native.Nat.{ℕ, _<_, _≤_, _^_}
 use native.Mathlib.Omega.{arith}
 use mathlib.Core.List.{List, [], _∷_}
 use lib.Dec.{lit<, lit≤}
@@ -42,7 +42,7 @@ use denote.Exit.{yes}
 use Rattle.codec.specs.Ring.{headBits}
 use Rattle.codec.specs.declared.head.HeadBits.{HeadBits}
 use Rattle.codec.specs.declared.reader.Reader.{Reader}
-use Rattle.codec.proofs.Lent.{Take, Asked, taken, moved, calls-take}
+use Rattle.codec.proofs.Lent.{Take, Asked, taken, calls-take}
 use Rattle.codec.proofs.head.HeadBits as S
 use Rattle.codec.proofs.head.HeadBits.Laws as S′
 use Rattle.codec.proofs.reader.Reader as T
