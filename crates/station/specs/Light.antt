@@ -7,7 +7,8 @@ use Rattle.codec.specs.Order.{firstOf}
 use Rattle.parts.specs.Messages.{none}
 use Rattle.parts.specs.Frames.{numberOf, flight, failingOf}
 use Rattle.station.specs.Stations.{withTurn, quietTurn, sendingTurn}
-use Rattle.station.specs.Round.{sight, reply}
+use Rattle.station.specs.Round.{sight}
+use Rattle.plain_rules.specs.Round.{reply}
 use Rattle.station.specs.Heard.{acknowledged, stops}
 use Rattle.parts.specs.declared.moves.State.the-variants.{Idle}
 use Rattle.parts.specs.declared.frame.Whom.{Whom}

@@ -6,7 +6,8 @@ use Rattle.parts.specs.Choose.{pick}
 use Rattle.parts.specs.Messages.{none}
 use Rattle.parts.specs.Frames.{numberOf, flight, noFlight, failingOf}
 use Rattle.station.specs.Stations.{awaitedOf, withTurn, quietTurn, quiet, sendingTurn, head}
-use Rattle.station.specs.Round.{sight, reply}
+use Rattle.station.specs.Round.{sight}
+use Rattle.plain_rules.specs.Round.{reply}
 use Rattle.station.specs.Heard.{acknowledged, landed, acknowledge, failed, stops, nothingMore, stored, handle, silent, respond, heard}
 use Rattle.station.specs.Light.{changed, heavy, carries, touches, rested, isInformation, replied, lightIf, light, turnAlone}
 use Rattle.parts.specs.declared.moves.State.the-variants.{Idle}
@@ -21,7 +22,7 @@ use Rattle.station.specs.declared.station.Handled.the-variants.{Last}
 use Rattle.station.specs.declared.station.Turn.{Turn}
 use Rattle.station.specs.declared.station.Station.{Station}
 use Rattle.station.specs.declared.station.Payload.the-variants.{NoPayload}
-use Rattle.station.specs.declared.rules.round.Sight.{Sight}
+use Rattle.plain_rules.specs.declared.round.Sight.{Sight}
 use Rattle.station.specs.declared.rules.strike.Struck.{Struck}
 use Rattle.station.specs.declared.rules.heard.Stored.{Stored}
 use Rattle.station.specs.declared.rules.light.Light.{Light}
