@@ -13,7 +13,7 @@ use station::station::Station;
 pub fn is_quiet(frame: Frame) -> bool
     ensures { λ r. ⌜ r ≡ isNobody (failingOf frame) ⌝ }
 {
-    let failing = station::rules::heard::failing_of(frame);
+    let failing = plain_rules::heard::failing_of(frame);
     match failing {
         Whom::Nobody => true,
         Whom::Member(_) => false,

@@ -111,7 +111,7 @@ fn begin(words: &[u8], s: Station) {
     write_awaited(awaited, s.own);
     show::some(b" retries ", turn.retries as u64);
     let head = station::rules::round::head_of(s);
-    show::some(b" head ", station::rules::round::head_priority(head) as u64);
+    show::some(b" head ", plain_rules::round::head_priority(head) as u64);
     write_gap(s, 0);
     write_gap(s, 1);
     write_gap(s, 2);

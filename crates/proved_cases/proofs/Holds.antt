@@ -9,10 +9,14 @@ use Rattle.parts.specs.Live.{full, after, seek, successor}
 use Rattle.parts.specs.Messages.{pack, pushed, fits, only, splitBy, betterOf, bestOf, best, hasPlace, freeFrom, lowestFree}
 use Rattle.station.specs.Stations.{addUpTo, head, moved, unless}
 use Rattle.station.specs.Start.{started, startRule}
-use Rattle.station.specs.Round.{startRound, sendHead, grant, returned, cleared, raised, passOn, onToken, reply}
-use Rattle.station.specs.Heard.{heardRefusal, acknowledges, acknowledged, landed, acknowledge, strikeOther, strikeHeard, failed, isLast, nothingMore, receive, stored, handle, respond, heard, frameRule}
-use Rattle.station.specs.Strike.{newly, giveUpTo, giveUpAt, giveUpFlight}
-use Rattle.station.specs.Queue.{queueRefusal, accepted, queueRule}
+use Rattle.plain_rules.specs.Round.{startRound, sendHead, grant, returned, cleared, raised, passOn, onToken, reply}
+use Rattle.station.specs.Heard.{acknowledged, landed, acknowledge, strikeOther, strikeHeard, failed, isLast, nothingMore, receive, stored, handle, respond, heard, frameRule}
+use Rattle.plain_rules.specs.Refusals.{heardRefusal}
+use Rattle.plain_rules.specs.Heard.{acknowledges}
+use Rattle.station.specs.Strike.{giveUpTo, giveUpAt, giveUpFlight}
+use Rattle.plain_rules.specs.Heard.{newly}
+use Rattle.station.specs.Queue.{accepted, queueRule}
+use Rattle.plain_rules.specs.Refusals.{queueRefusal}
 use Rattle.bench.specs.Ring.{nobody, onWire, startAt, startDown, ringOf}
 use Rattle.bench.specs.Calls.{queue}
 use Rattle.bench.specs.Delivery.{handed, delivered, replyOf, deliver, stepOn, step, steps}

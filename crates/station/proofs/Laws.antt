@@ -1,6 +1,5 @@
 -- Laws of the station's definitions that the functions' proofs use, one file for each.
 pub mod Moved
-pub mod Queue
 pub mod Heard
 pub mod Light
 pub mod Timer

@@ -8,10 +8,13 @@ use Rattle.codec.specs.Order.{firstOf}
 use Rattle.parts.specs.Moves.{isIdle, isWaiting}
 use Rattle.parts.specs.Messages.{none, all, pushed, lowestFree}
 use Rattle.parts.specs.Live.{liveAt}
-use Rattle.parts.specs.Frames.{numberOf, next, flight, failingOf}
+use Rattle.parts.specs.Frames.{numberOf, flight, failingOf}
+use Rattle.plain_rules.specs.Refusals.{heardRefusal}
 use Rattle.station.specs.Stations.{stateOf, awaitedOf, withReceives, withLost, quiet, sending, addUpTo, alone, moved, unless}
-use Rattle.station.specs.Round.{sight, reply}
-use Rattle.station.specs.Strike.{newly, strike, nothingGone, giveUpTo, leave, told, stopped}
+use Rattle.station.specs.Round.{sight}
+use Rattle.plain_rules.specs.Round.{reply}
+use Rattle.station.specs.Strike.{strike, nothingGone, giveUpTo, leave, told, stopped}
+use Rattle.plain_rules.specs.Heard.{acknowledges, newly}
 use Rattle.parts.specs.declared.moves.State.the-variants.{Idle, Alone, Excluded}
 use Rattle.parts.specs.declared.moves.Event.the-variants.{Heard}
 use Rattle.parts.specs.declared.list.Message.{Message}
@@ -20,7 +23,7 @@ use Rattle.parts.specs.declared.frame.Whom.the-variants.{Nobody, Member}
 use Rattle.parts.specs.declared.frame.Frame.{Frame}
 use Rattle.parts.specs.declared.frame.Frame.the-variants.{Token, Transmit, Information}
 use Rattle.parts.specs.declared.frame.Dispatch.{Dispatch}
-use Rattle.parts.specs.declared.frame.Dispatch.the-variants.{Nothing, Sent}
+use Rattle.parts.specs.declared.frame.Dispatch.the-variants.{Nothing}
 use Rattle.station.specs.declared.station.Handled.{Handled}
 use Rattle.station.specs.declared.station.Handled.the-variants.{Never, Last}
 use Rattle.station.specs.declared.station.Turn.{Turn}
@@ -30,24 +33,12 @@ use Rattle.station.specs.declared.station.Answer.{Answer}
 use Rattle.station.specs.declared.rules.strike.Struck.{Struck}
 use Rattle.station.specs.declared.rules.heard.Stored.{Stored}
 
--- ---- 1. checks: sender or addressee not a member, both the same, sender not live or this station
+-- ---- 1. checks
 
-unfoldable pub heardRefusal : ℕ → ℕ → Bool → ℕ → ℕ → ℕ
-heardRefusal n own alive from to =
-    firstOf 0
-    ((leb n from, 13)
-    ∷ (leb n to, 13)
-    ∷ (eqb from to, 13)
-    ∷ (not alive, 13)
-    ∷ (eqb from own, 13)
-    ∷ [])
+abbrev pub checks : Station → ℕ → ℕ → ℕ
+checks s from to = heardRefusal (s .n) (s .own) (liveAt (s .live) from) from to
 
 -- ---- 2. acknowledgement
-
--- a frame `from` with the number k acknowledges the awaited one: it is from its addressee, with the number after its own
-unfoldable pub acknowledges : Dispatch → ℕ → ℕ → Bool
-acknowledges Nothing from k = false
-acknowledges (Sent frame to) from k = pick (eqb from to) (eqb k (next (numberOf frame))) false
 
 -- only a Waiting station is acknowledged
 unfoldable pub acknowledged : Station → ℕ → ℕ → Bool
@@ -144,9 +135,6 @@ respond k from to f = pick (nothingMore (k .station) to (numberOf f)) (silent k)
 
 unfoldable pub heard : Station → Frame → ℕ → ℕ → Answer
 heard s f from to = respond (failed (acknowledge s from (numberOf f)) (failingOf f)) from to f
-
-abbrev pub checks : Station → ℕ → ℕ → ℕ
-checks s from to = heardRefusal (s .n) (s .own) (liveAt (s .live) from) from to
 
 unfoldable pub frameRule : Station → Frame → ℕ → ℕ → Answer
 frameRule s f from to = moved s Heard (unless s (checks s from to) (heard s f from to))

@@ -9,7 +9,8 @@ use Rattle.parts.specs.Moves.{moveOf, runs}
 use Rattle.parts.specs.Messages.{none}
 use Rattle.parts.specs.Frames.{numberOf, flight, failingOf}
 use Rattle.station.specs.Stations.{stateOf, withTurn, quietTurn, sendingTurn}
-use Rattle.station.specs.Round.{sight, reply}
+use Rattle.station.specs.Round.{sight}
+use Rattle.plain_rules.specs.Round.{reply}
 use Rattle.station.specs.Heard.{acknowledged, stops, checks}
 use Rattle.parts.specs.declared.moves.State.the-variants.{Idle}
 use Rattle.parts.specs.declared.moves.Event.the-variants.{Heard}

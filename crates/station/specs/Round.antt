@@ -1,96 +1,10 @@
--- What is sent: starting a round, sending the head, granting, passing a token on.
-use mathlib.Core.Bool.{Bool, not}
-use mathlib.Core.List.{List, [], _∷_}
-use Prim.Native.Nat.{ℕ}
-use lib.Dec.{ltb, eqb}
-use Rattle.parts.specs.Choose.{pick}
-use Rattle.codec.specs.Order.{firstOf}
-use Rattle.parts.specs.Live.{liveAt, successor}
-use Rattle.parts.specs.Frames.{next}
+-- What a station looks at when it composes a frame.
+use Rattle.parts.specs.Live.{successor}
 use Rattle.station.specs.Stations.{head}
-use Rattle.parts.specs.declared.live.Live.{Live}
-use Rattle.parts.specs.declared.list.Message.{Message}
-use Rattle.parts.specs.declared.list.Best.{Best}
-use Rattle.parts.specs.declared.frame.Whom.{Whom}
-use Rattle.parts.specs.declared.frame.Whom.the-variants.{Nobody, Member}
-use Rattle.parts.specs.declared.frame.Frame.{Frame}
-use Rattle.parts.specs.declared.frame.Frame.the-variants.{Token, Transmit, Information}
-use Rattle.parts.specs.declared.frame.Dispatch.{Dispatch}
-use Rattle.parts.specs.declared.frame.Dispatch.the-variants.{Nothing, Sent}
 use Rattle.station.specs.declared.station.Station.{Station}
-use Rattle.station.specs.declared.rules.round.Sight.{Sight}
-use Rattle.station.specs.declared.rules.round.Bid.{Bid}
+use Rattle.plain_rules.specs.declared.round.Sight.{Sight}
 
--- what a station looks at when it composes a frame: itself, its live set, its successor, its head
+-- itself, its live set, its successor, its head
 abbrev pub sight : Station → Sight
 sight s =
     record { own = s .own; live = s .live; next = successor (s .live) (s .n) (s .own); head = head s }
-
--- the head's priority, 0 if there is none
-abbrev pub priorityOf : Best → ℕ
-priorityOf b = pick (b .some) (b .message .priority) 0
-
--- "a token to its successor with itself as master, its head's priority (0 if none), itself named"
-unfoldable pub startRound : Sight → ℕ → Whom → Dispatch
-startRound v number failing = Sent (Token number (priorityOf (v .head)) (v .own) failing (v .own)) (v .next)
-
--- the information frame of a message, to its other end
-abbrev pub informationOf : ℕ → Message → Dispatch
-informationOf number m = Sent (Information number (m .priority) (m .channel) (m .length) (m .place)) (m .other)
-
--- told to send: the head goes; "told to send with no head, it starts a round"
-unfoldable pub sendHead : Sight → ℕ → Dispatch
-sendHead v number = pick (v .head .some) (informationOf number (v .head .message)) (startRound v number Nobody)
-
--- a transmit token to the named station; "told to grant to a struck station, it starts a round"
-unfoldable pub grant : Sight → ℕ → ℕ → ℕ → Dispatch
-grant v number priority named =
-    pick (liveAt (v .live) named)
-    (Sent (Transmit number priority (v .own) named) named)
-    (startRound v number Nobody)
-
--- a token naming this station as master: priority 0 starts a round; itself named sends its head; otherwise a transmit token
-unfoldable pub returned : Sight → ℕ → ℕ → ℕ → Dispatch
-returned v number priority named =
-    firstOf (grant v number priority named)
-    ((eqb priority 0, startRound v number Nobody)
-    ∷ (eqb named (v .own), sendHead v number)
-    ∷ [])
-
--- ---- a token's bid: its priority and its named station
-
--- this station's own (0 if no head)
-abbrev pub ownBid : Sight → Bid
-ownBid v = record { priority = priorityOf (v .head); named = v .own }
-
--- "if its named station is not live, name and priority first become this station's own"
-unfoldable pub cleared : Sight → Bid → Bid
-cleared v b = pick (liveAt (v .live) (b .named)) b (ownBid v)
-
--- "then, if the head's priority is greater than the token's, priority and name are replaced"
-unfoldable pub raised : Sight → Bid → Bid
-raised v b = pick (ltb (b .priority) (priorityOf (v .head))) (ownBid v) b
-
--- a token goes on to the successor
-abbrev pub forward : Sight → ℕ → ℕ → Whom → Bid → Dispatch
-forward v number master failing b = Sent (Token number (b .priority) master failing (b .named)) (v .next)
-
--- other token: if its master is not live, a round starts; else it goes to the successor, failing station kept
-unfoldable pub passOn : Sight → ℕ → ℕ → Whom → Bid → Dispatch
-passOn v number master failing b =
-    pick (liveAt (v .live) master)
-    (forward v number master failing (raised v (cleared v b)))
-    (startRound v number Nobody)
-
--- a token, with the number of the frame to send
-unfoldable pub onToken : Sight → ℕ → ℕ → ℕ → Whom → ℕ → Dispatch
-onToken v number priority master failing named =
-    pick (eqb master (v .own))
-    (returned v number priority named)
-    (passOn v number master failing (record { priority = priority; named = named }))
-
--- the frame sent on a heard one, with the next number
-unfoldable pub reply : Sight → Frame → Dispatch
-reply v (Token number priority master failing named) = onToken v (next number) priority master failing named
-reply v (Transmit number priority master named) = sendHead v (next number)
-reply v (Information number priority channel length place) = startRound v (next number) Nobody

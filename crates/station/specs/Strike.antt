@@ -3,25 +3,19 @@ use mathlib.Core.Bool.{Bool}
 use Prim.Native.Nat.{ℕ}
 use Rattle.parts.specs.Choose.{pick}
 use Rattle.parts.specs.Messages.{none, best, splitBy, pushed}
-use Rattle.parts.specs.Live.{liveAt, without}
+use Rattle.parts.specs.Live.{without}
 use Rattle.parts.specs.Frames.{flight}
 use Rattle.station.specs.Stations.{withLive, withSends, quiet, counted, awaitedOf}
 use Rattle.parts.specs.declared.moves.State.{State}
-use Rattle.parts.specs.declared.live.Live.{Live}
 use Rattle.parts.specs.declared.list.Flight.{Flight}
 use Rattle.parts.specs.declared.list.Best.{Best}
 use Rattle.parts.specs.declared.list.Messages.{Messages}
 use Rattle.parts.specs.declared.list.Parts.{Parts}
 use Rattle.parts.specs.declared.list.Which.the-variants.{WaitingFor, HasPlace}
 use Rattle.parts.specs.declared.frame.Whom.{Whom}
-use Rattle.parts.specs.declared.frame.Whom.the-variants.{Nobody, Member}
 use Rattle.station.specs.declared.station.Station.{Station}
 use Rattle.station.specs.declared.rules.strike.Loss.{Loss}
 use Rattle.station.specs.declared.rules.strike.Struck.{Struck}
-
--- a station is newly struck if it was live
-unfoldable pub newly : Live → ℕ → Whom
-newly l p = pick (liveAt l p) (Member p) Nobody
 
 -- `p` is struck from the live set
 abbrev pub strike : Station → ℕ → Station

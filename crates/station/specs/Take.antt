@@ -1,11 +1,9 @@
 -- "Take removes the best message of a channel: highest priority, earliest among equals."
-use mathlib.Core.Bool.{Bool, not}
-use mathlib.Core.List.{List, [], _∷_}
+use mathlib.Core.Bool.{Bool}
 use Prim.Native.Nat.{ℕ}
-use lib.Dec.{ltb}
 use Rattle.parts.specs.Choose.{pick}
-use Rattle.codec.specs.Order.{firstOf}
 use Rattle.parts.specs.Messages.{none, best, splitBy}
+use Rattle.plain_rules.specs.Refusals.{takeRefusal}
 use Rattle.station.specs.Stations.{withReceives, moved, unless}
 use Rattle.parts.specs.declared.moves.Event.the-variants.{Take}
 use Rattle.parts.specs.declared.list.Message.{Message}
@@ -17,15 +15,6 @@ use Rattle.parts.specs.declared.frame.Dispatch.the-variants.{Nothing}
 use Rattle.station.specs.declared.station.Station.{Station}
 use Rattle.station.specs.declared.station.Payload.the-variants.{Of}
 use Rattle.station.specs.declared.station.Answer.{Answer}
-
--- channel above 7; no message on the channel; take's room shorter than the message
-unfoldable pub takeRefusal : ℕ → Best → ℕ → ℕ
-takeRefusal channel b room =
-    firstOf 0
-    ((ltb 7 channel, 17)
-    ∷ (not (b .some), 20)
-    ∷ (ltb room (b .message .length), 21)
-    ∷ [])
 
 abbrev pub bestOn : Station → ℕ → Best
 bestOn s channel = best (OnChannel channel) (s .receives)

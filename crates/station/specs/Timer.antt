@@ -1,20 +1,19 @@
 -- "Timer while Waiting."
-use mathlib.Core.Bool.{Bool, not}
-use mathlib.Core.List.{List, [], _∷_}
+use mathlib.Core.Bool.{Bool}
 use Prim.Native.Nat.{ℕ, _+_}
-use lib.Dec.{ltb, eqb}
+use lib.Dec.{ltb}
 use Rattle.parts.specs.Choose.{pick}
-use Rattle.codec.specs.Order.{firstOf}
 use Rattle.parts.specs.Messages.{none}
-use Rattle.parts.specs.Live.{liveAt}
-use Rattle.parts.specs.Frames.{numberOf, next}
+use Rattle.parts.specs.Frames.{next}
+use Rattle.plain_rules.specs.Resend.{resend}
 use Rattle.station.specs.Stations.{withTurn, awaitedOf, quiet, sending, alone, answered, moved}
-use Rattle.station.specs.Round.{sight, startRound, ownBid, forward}
-use Rattle.station.specs.Strike.{newly, strike, giveUpTo, giveUpFlight, told}
+use Rattle.station.specs.Round.{sight}
+use Rattle.station.specs.Strike.{strike, giveUpTo, giveUpFlight, told}
+use Rattle.plain_rules.specs.Heard.{newly}
 use Rattle.parts.specs.declared.moves.State.the-variants.{Idle, Alone}
 use Rattle.parts.specs.declared.moves.Event.the-variants.{Timer}
 use Rattle.parts.specs.declared.frame.Whom.{Whom}
-use Rattle.parts.specs.declared.frame.Whom.the-variants.{Nobody, Member}
+use Rattle.parts.specs.declared.frame.Whom.the-variants.{Nobody}
 use Rattle.parts.specs.declared.frame.Frame.{Frame}
 use Rattle.parts.specs.declared.frame.Frame.the-variants.{Token, Transmit, Information}
 use Rattle.parts.specs.declared.frame.Dispatch.{Dispatch}
@@ -22,8 +21,6 @@ use Rattle.parts.specs.declared.frame.Dispatch.the-variants.{Nothing, Sent}
 use Rattle.station.specs.declared.station.Station.{Station}
 use Rattle.station.specs.declared.station.Payload.the-variants.{NoPayload}
 use Rattle.station.specs.declared.station.Answer.{Answer}
-use Rattle.station.specs.declared.rules.round.Sight.{Sight}
-use Rattle.station.specs.declared.rules.round.Bid.{Bid}
 use Rattle.station.specs.declared.rules.strike.Struck.{Struck}
 
 -- ---- below R: "the same frame goes again, same number, count one more"
@@ -40,26 +37,6 @@ again s =
     { station = onceMore s; number = 0; sent = awaitedOf s; struck = Nobody; gone = none; payload = NoPayload }
 
 -- ---- the last timer, for a frame to `to`
-
--- "if the struck station was named, name and priority become this station's own (0 if no head)"
-unfoldable pub renamed : Sight → ℕ → Bid → Bid
-renamed v to b = pick (eqb (b .named) to) (ownBid v) b
-
--- a token passed on for a master still live goes to the new successor; one of its own starts a round
-unfoldable pub tokenAgain : Sight → ℕ → ℕ → ℕ → Bid → Dispatch
-tokenAgain v number to master b =
-    firstOf (forward v number master (Member to) (renamed v to b))
-    ((eqb master (v .own), startRound v number (Member to))
-    ∷ (not (liveAt (v .live) master), startRound v number (Member to))
-    ∷ [])
-
--- "in all other cases a round starts, also with the number after the old frame's. The token sent here names the struck
--- station as failing"
-unfoldable pub resend : Sight → ℕ → Frame → Dispatch
-resend v to (Token number priority master failing named) =
-    tokenAgain v (next number) to master (record { priority = priority; named = named })
-resend v to (Transmit number priority master named) = startRound v (next number) (Member to)
-resend v to (Information number priority channel length place) = startRound v (next number) (Member to)
 
 -- the addressee is struck; waiting messages to it, then any message in flight, are given up
 unfoldable pub unanswered : Station → ℕ → Struck

@@ -4,7 +4,7 @@ use Prim.Native.Nat.{ℕ, _<_}
 use native.Mathlib.Nat.{zero-add}
 use native.Mathlib.Omega.{arith}
 use Rattle.station.specs.Stations.{head}
-use Rattle.station.specs.Round.{reply}
+use Rattle.plain_rules.specs.Round.{reply}
 use Rattle.station.specs.Heard.{frameRule}
 use Rattle.parts.specs.declared.frame.Dispatch.{Dispatch}
 use Rattle.parts.specs.declared.frame.Dispatch.the-variants.{Sent}

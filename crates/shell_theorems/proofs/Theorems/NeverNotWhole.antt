@@ -24,10 +24,13 @@ use Rattle.parts.specs.declared.frame.Dispatch.the-variants.{Nothing, Sent}
 use Rattle.parts.specs.declared.list.Best.{Best}
 use Rattle.station.specs.Stations.{stateOf, awaitedOf, moved, unless, answered, alone}
 use Rattle.station.specs.Start.{started, startRule}
-use Rattle.station.specs.Heard.{heardRefusal, heard, respond, handle, nothingMore, frameRule}
+use Rattle.station.specs.Heard.{heard, respond, handle, nothingMore, frameRule}
+use Rattle.plain_rules.specs.Refusals.{heardRefusal}
 use Rattle.station.specs.Timer.{timerRule, onTimer, silence, afterStrike, unanswered}
-use Rattle.station.specs.Queue.{queueRefusal, accepted, queueRule}
-use Rattle.station.specs.Take.{takeRefusal, taking, takeRule}
+use Rattle.station.specs.Queue.{accepted, queueRule}
+use Rattle.plain_rules.specs.Refusals.{queueRefusal}
+use Rattle.station.specs.Take.{taking, takeRule}
+use Rattle.plain_rules.specs.Refusals.{takeRefusal}
 use Rattle.station.specs.declared.rules.strike.Struck.{Struck}
 use Rattle.station.specs.declared.station.Station.{Station}
 use Rattle.station.specs.declared.station.Answer.{Answer}

@@ -7,8 +7,10 @@ use Rattle.parts.specs.Moves.{moveOf, runs}
 use Rattle.parts.specs.Messages.{none, pushed}
 use Rattle.parts.specs.Frames.{numberOf, flight, failingOf}
 use Rattle.station.specs.Stations.{stateOf, awaitedOf, withReceives, withLost, addUpTo, alone}
-use Rattle.station.specs.Round.{sight, reply}
-use Rattle.station.specs.Strike.{newly, strike, giveUpTo, leave, told, stopped}
+use Rattle.station.specs.Round.{sight}
+use Rattle.plain_rules.specs.Round.{reply}
+use Rattle.station.specs.Strike.{strike, giveUpTo, leave, told, stopped}
+use Rattle.plain_rules.specs.Heard.{newly}
 use Rattle.station.specs.Heard.{landed, acknowledge, strikeOther, strikeHeard, failed, nothingMore, receive, stored, sendOn, handle, silent, respond, heard, checks, frameRule}
 use Rattle.parts.specs.declared.moves.State.the-variants.{Alone, Excluded}
 use Rattle.parts.specs.declared.moves.Event.the-variants.{Heard}
@@ -20,7 +22,7 @@ use Rattle.parts.specs.declared.frame.Frame.{Frame}
 use Rattle.parts.specs.declared.frame.Dispatch.{Dispatch}
 use Rattle.station.specs.declared.station.Station.{Station}
 use Rattle.station.specs.declared.station.Payload.the-variants.{NoPayload, Of}
-use Rattle.station.specs.declared.rules.round.Sight.{Sight}
+use Rattle.plain_rules.specs.declared.round.Sight.{Sight}
 use Rattle.station.specs.declared.rules.strike.Loss.{Loss}
 use Rattle.station.specs.declared.rules.strike.Struck.{Struck}
 use Rattle.station.specs.declared.rules.heard.Stored.{Stored}

@@ -9,7 +9,8 @@ use Rattle.parts.specs.Moves.{moveOf, runs}
 use Rattle.parts.specs.Messages.{none}
 use Rattle.parts.specs.Frames.{numberOf, flight, noFlight, failingOf}
 use Rattle.station.specs.Stations.{stateOf, awaitedOf, withTurn, quietTurn, quiet, sendingTurn, answered, moved, unless, head}
-use Rattle.station.specs.Round.{sight, reply}
+use Rattle.station.specs.Round.{sight}
+use Rattle.plain_rules.specs.Round.{reply}
 use Rattle.station.specs.Heard.{acknowledged, landed, acknowledge, failed, stops, nothingMore, stored, handle, silent, respond, heard, checks, frameRule}
 use Rattle.station.specs.Light.{changed, heavy, carries, touches, rested, isInformation, replied, lightIf, light, turnAlone, lightRule}
 use Rattle.parts.specs.declared.moves.State.the-variants.{Idle}
@@ -25,7 +26,7 @@ use Rattle.station.specs.declared.station.Handled.the-variants.{Last}
 use Rattle.station.specs.declared.station.Turn.{Turn}
 use Rattle.station.specs.declared.station.Station.{Station}
 use Rattle.station.specs.declared.station.Payload.the-variants.{NoPayload}
-use Rattle.station.specs.declared.rules.round.Sight.{Sight}
+use Rattle.plain_rules.specs.declared.round.Sight.{Sight}
 use Rattle.station.specs.declared.rules.strike.Struck.{Struck}
 use Rattle.station.specs.declared.rules.heard.Stored.{Stored}
 use Rattle.station.specs.declared.rules.light.Light.{Light}

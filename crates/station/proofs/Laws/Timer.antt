@@ -1,44 +1,27 @@
 -- Laws of the rule for the timer: what each step is, when its parts are so. Assumes nothing.
 use mathlib.Core.Path.{_≡_, refl, sym, ap, _∙_}
-use mathlib.Core.Bool.{true, false, not}
+use mathlib.Core.Bool.{true, false}
 use Prim.Native.Nat.{ℕ, _<_, _≤_}
-use borrow.Author.Tests.{lt-ltb, le-ltb, eq-eqb, ne-eqb}
+use borrow.Author.Tests.{lt-ltb, le-ltb}
 use Rattle.parts.specs.Moves.{moveOf}
-use Rattle.parts.specs.Live.{liveAt}
 use Rattle.station.specs.Stations.{stateOf, awaitedOf, quiet, alone}
-use Rattle.station.specs.Round.{sight, startRound, forward}
-use Rattle.station.specs.Strike.{newly, strike, giveUpTo, giveUpFlight, told}
-use Rattle.station.specs.Timer.{again, renamed, tokenAgain, resend, unanswered, leftAlone, goesOn, afterStrike, silence, onTimer, timerRule}
+use Rattle.station.specs.Round.{sight}
+use Rattle.station.specs.Strike.{strike, giveUpTo, giveUpFlight, told}
+use Rattle.plain_rules.specs.Heard.{newly}
+use Rattle.station.specs.Timer.{again, unanswered, leftAlone, goesOn, afterStrike, silence, onTimer, timerRule}
+use Rattle.plain_rules.specs.Resend.{resend}
 use Rattle.parts.specs.declared.moves.State.the-variants.{Idle, Waiting}
 use Rattle.parts.specs.declared.moves.Event.the-variants.{Timer}
 use Rattle.parts.specs.declared.frame.Whom.{Whom}
-use Rattle.parts.specs.declared.frame.Whom.the-variants.{Member}
 use Rattle.parts.specs.declared.frame.Frame.{Frame}
 use Rattle.parts.specs.declared.frame.Dispatch.{Dispatch}
 use Rattle.parts.specs.declared.frame.Dispatch.the-variants.{Sent}
 use Rattle.station.specs.declared.station.Station.{Station}
-use Rattle.station.specs.declared.rules.round.Sight.{Sight}
-use Rattle.station.specs.declared.rules.round.Bid.{Bid}
+use Rattle.plain_rules.specs.declared.round.Sight.{Sight}
 use Rattle.station.specs.declared.rules.strike.Loss.{Loss}
 use Rattle.station.specs.declared.rules.strike.Struck.{Struck}
 use Rattle.parts.proofs.Laws.Choose.{pick-true, pick-false}
 use Rattle.station.proofs.Laws.Moved.{moved-runs}
-
--- ---- a token instead of a token
-
-pub again-own : (v : Sight) (number to master : ℕ) (b : Bid) → master ≡ v .own → startRound v number (Member to) ≡ tokenAgain v number to master b
-unfolding tokenAgain
-again-own v number to master b h = rw (eq-eqb _ _ h)
-
-pub again-struck : (v : Sight) (number to master : ℕ) (b : Bid) → (master ≡ v .own → ⊥) → not (liveAt (v .live) master) ≡ true
-    → startRound v number (Member to) ≡ tokenAgain v number to master b
-unfolding tokenAgain
-again-struck v number to master b h i = rw (ne-eqb _ _ h, i)
-
-pub again-passed : (v : Sight) (number to master : ℕ) (b d : Bid) → (master ≡ v .own → ⊥) → not (liveAt (v .live) master) ≡ false
-    → d ≡ renamed v to b → forward v number master (Member to) d ≡ tokenAgain v number to master b
-unfolding tokenAgain
-again-passed v number to master b d h i e = rw (ne-eqb _ _ h, i, e)
 
 -- ---- the addressee is struck
 

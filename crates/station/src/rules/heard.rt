@@ -1,29 +1,7 @@
 // A heard frame, in five steps.
 ghost use mathlib.Core.Path.{_≡_};
 ghost use Rattle.parts.specs.Moves.{isIdle, isWaiting};
-ghost use Rattle.parts.specs.Frames.{failingOf};
-ghost use Rattle.station.specs.Heard.{
-  heardRefusal,
-  checks,
-  acknowledges,
-  acknowledged,
-  landed,
-  acknowledge,
-  strikeOther,
-  strikeHeard,
-  failed,
-  isLast,
-  stops,
-  heardMessage,
-  receive,
-  stored,
-  handle,
-  sendOn,
-  silent,
-  respond,
-  heard,
-  frameRule,
-};
+ghost use Rattle.station.specs.Heard.{checks, acknowledged, landed, acknowledge, strikeOther, strikeHeard, failed, isLast, stops, heardMessage, receive, stored, handle, sendOn, silent, respond, heard, frameRule};
 use crate::rules::strike::Loss;
 use crate::rules::strike::Struck;
 use crate::station::Answer;
@@ -44,51 +22,11 @@ pub struct Stored {
     pub payload: Payload,
 }
 
-// 1. Checks, over plain values.
-pub fn heard_refusal(n: u8, own: u8, alive: bool, from: u8, to: u8) -> u32
-    ensures { λ r. ⌜ r ≡ heardRefusal n own alive from to ⌝ }
-{
-    if n <= from {
-        return 13;
-    }
-    if n <= to {
-        return 13;
-    }
-    if from == to {
-        return 13;
-    }
-    if !alive {
-        return 13;
-    }
-    if from == own {
-        return 13;
-    }
-    0
-}
-
 pub fn check_heard(s: Station, from: u8, to: u8) -> u32
     ensures { λ r. ⌜ r ≡ checks s from to ⌝ }
 {
     let alive = parts::live::is_live(s.live, from as usize);
-    heard_refusal(s.n, s.own, alive, from, to)
-}
-
-// 2. Whether a frame `from` with the number `k` acknowledges the awaited one.
-pub fn acks(awaited: Dispatch, from: u8, k: u16) -> bool
-    ensures { λ r. ⌜ r ≡ acknowledges awaited from k ⌝ }
-{
-    match awaited {
-        Dispatch::Nothing => false,
-        Dispatch::Sent { frame, to } => {
-            if from == to {
-                let own = parts::frame::number_of(frame);
-                let next = parts::frame::next_number(own);
-                k == next
-            } else {
-                false
-            }
-        }
-    }
+    plain_rules::refusals::heard_refusal(s.n, s.own, alive, from, to)
 }
 
 pub fn is_acknowledged(s: Station, from: u8, k: u16) -> bool
@@ -98,7 +36,7 @@ pub fn is_acknowledged(s: Station, from: u8, k: u16) -> bool
     let state = turn.state;
     if parts::moves::is_waiting(state) {
         let awaited = turn.awaited;
-        return acks(awaited, from, k);
+        return plain_rules::heard::acks(awaited, from, k);
     }
     false
 }
@@ -141,7 +79,7 @@ pub fn strike_other(s: Station, p: u8, w: Whom) -> Struck
 pub fn strike_heard(s: Station, p: u8) -> Struck
     ensures { λ r. ⌜ r ≡ strikeHeard s p ⌝ }
 {
-    let w = crate::rules::strike::newly_struck(s.live, p);
+    let w = plain_rules::heard::newly_struck(s.live, p);
     if p == s.own {
         let station = crate::rules::strike::strike_out(s, p);
         let gone = parts::list::empty();
@@ -149,33 +87,6 @@ pub fn strike_heard(s: Station, p: u8) -> Struck
         return crate::rules::strike::stop(l, w, State::Excluded);
     }
     strike_other(s, p, w)
-}
-
-pub fn failing_of(f: Frame) -> Whom
-    ensures { λ r. ⌜ r ≡ failingOf f ⌝ }
-{
-    match f {
-        Frame::Token {
-            number: _,
-            priority: _,
-            master: _,
-            failing,
-            named: _,
-        } => failing,
-        Frame::Transmit {
-            number: _,
-            priority: _,
-            master: _,
-            named: _,
-        } => Whom::Nobody,
-        Frame::Information {
-            number: _,
-            priority: _,
-            channel: _,
-            length: _,
-            place: _,
-        } => Whom::Nobody,
-    }
 }
 
 pub fn fail(s: Station, w: Whom) -> Struck
@@ -316,7 +227,7 @@ pub fn handle_it(k: Struck, t: Stored, f: Frame) -> Answer
 {
     let number = parts::frame::number_of(f);
     let v = crate::rules::round::look(t.station);
-    let d = crate::rules::round::reply_to(v, f);
+    let d = plain_rules::round::reply_to(v, f);
     send_on(k, t, number, d)
 }
 
@@ -354,7 +265,7 @@ pub fn hear(s: Station, f: Frame, from: u8, to: u8) -> Answer
 {
     let number = parts::frame::number_of(f);
     let t = take_ack(s, from, number);
-    let w = failing_of(f);
+    let w = plain_rules::heard::failing_of(f);
     let k = fail(t, w);
     respond_to(k, from, to, f)
 }

@@ -1,17 +1,7 @@
 // A heard frame that touches no list and strikes nobody changes the turn alone.
 ghost use mathlib.Core.Path.{_≡_};
 ghost use Rattle.parts.specs.Frames.{failingOf};
-ghost use Rattle.station.specs.Light.{
-  heavy,
-  carries,
-  touches,
-  rested,
-  isInformation,
-  replied,
-  light,
-  turnAlone,
-  lightRule,
-};
+ghost use Rattle.station.specs.Light.{heavy, carries, touches, rested, isInformation, replied, light, turnAlone, lightRule};
 use crate::station::Answer;
 use crate::station::Handled;
 use crate::station::Payload;
@@ -56,7 +46,7 @@ pub fn lands(t: Turn, acked: bool) -> bool
 pub fn is_heavy(t: Turn, acked: bool, f: Frame) -> bool
     ensures { λ r. ⌜ r ≡ touches (failingOf f) t acked ⌝ }
 {
-    let w = crate::rules::heard::failing_of(f);
+    let w = plain_rules::heard::failing_of(f);
     match w {
         Whom::Nobody => lands(t, acked),
         Whom::Member(_) => true,
@@ -104,7 +94,7 @@ pub fn reply_lightly(s: Station, f: Frame) -> Light
 {
     let number = parts::frame::number_of(f);
     let v = crate::rules::round::look(s);
-    let d = crate::rules::round::reply_to(v, f);
+    let d = plain_rules::round::reply_to(v, f);
     let handled = Handled::Last(number);
     let turn = crate::station::waiting(handled, d);
     Light {

@@ -1,7 +1,7 @@
 // Queue.
 ghost use mathlib.Core.Path.{_≡_};
 ghost use Prim.Native.Nat.{_≤_};
-ghost use Rattle.station.specs.Queue.{queueRefusal, queueNumber, joining, accepted, queueRule};
+ghost use Rattle.station.specs.Queue.{queueNumber, joining, accepted, queueRule};
 use crate::station::Answer;
 use crate::station::Payload;
 use crate::station::Station;
@@ -10,52 +10,12 @@ use parts::frame::Whom;
 use parts::list::Message;
 use parts::moves::Event;
 
-// The checks in their order, over plain values.
-pub fn queue_refusal(
-    n: u8,
-    own: u8,
-    live: bool,
-    len: usize,
-    to: usize,
-    priority: usize,
-    channel: usize,
-    length: usize,
-) -> u32
-    ensures { λ r. ⌜ r ≡ queueRefusal n own live len to priority channel length ⌝ }
-{
-    if priority == 0 {
-        return 14;
-    }
-    if 255 < priority {
-        return 14;
-    }
-    if n as usize <= to {
-        return 15;
-    }
-    if to == own as usize {
-        return 15;
-    }
-    if !live {
-        return 16;
-    }
-    if 7 < channel {
-        return 17;
-    }
-    if 1492 < length {
-        return 18;
-    }
-    if 16 <= len {
-        return 19;
-    }
-    0
-}
-
 pub fn check_queue(s: Station, to: usize, priority: usize, channel: usize, length: usize) -> u32
     ensures { λ r. ⌜ r ≡ queueNumber s to priority channel length ⌝ }
 {
     let live = parts::live::is_live(s.live, to);
     let l = s.sends;
-    queue_refusal(s.n, s.own, live, l.len, to, priority, channel, length)
+    plain_rules::refusals::queue_refusal(s.n, s.own, live, l.len, to, priority, channel, length)
 }
 
 pub fn join(s: Station, m: Message) -> Answer

@@ -31,7 +31,7 @@ pub fn start_up(s: Station) -> Answer
 {
     if s.own == 0 {
         let v = crate::rules::round::look(s);
-        let d = crate::rules::round::round_from(v, 0, Whom::Nobody);
+        let d = plain_rules::round::round_from(v, 0, Whom::Nobody);
         return send_first(s, d);
     }
     let t = crate::station::at_rest(s, State::Idle);

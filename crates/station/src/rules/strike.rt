@@ -1,21 +1,10 @@
 // Striking a station, giving messages up, and telling both.
 ghost use mathlib.Core.Path.{_≡_};
-ghost use Rattle.station.specs.Strike.{
-  newly,
-  strike,
-  giveUpTo,
-  messageAt,
-  leave,
-  giveUpAt,
-  giveUpFlight,
-  told,
-  stopped,
-};
+ghost use Rattle.station.specs.Strike.{strike, giveUpTo, messageAt, leave, giveUpAt, giveUpFlight, told, stopped};
 use crate::station::Station;
 use parts::frame::Whom;
 use parts::list::Messages;
 use parts::list::Which;
-use parts::live::Live;
 use parts::moves::State;
 
 // A station and the messages that have left its send list, in order, not counted yet.
@@ -29,15 +18,6 @@ pub struct Struck {
     pub station: Station,
     pub struck: Whom,
     pub gone: Messages,
-}
-
-pub fn newly_struck(live: Live, p: u8) -> Whom
-    ensures { λ r. ⌜ r ≡ newly live p ⌝ }
-{
-    if parts::live::is_live(live, p as usize) {
-        return Whom::Member(p);
-    }
-    Whom::Nobody
 }
 
 pub fn strike_out(s: Station, p: u8) -> Station

@@ -1,6 +1,6 @@
 // Take.
 ghost use mathlib.Core.Path.{_≡_};
-ghost use Rattle.station.specs.Take.{takeRefusal, bestOn, taking, takeRule};
+ghost use Rattle.station.specs.Take.{bestOn, taking, takeRule};
 use crate::station::Answer;
 use crate::station::Payload;
 use crate::station::Station;
@@ -10,22 +10,6 @@ use parts::list::Best;
 use parts::list::Message;
 use parts::list::Which;
 use parts::moves::Event;
-
-// The checks in their order.
-pub fn take_refusal(channel: usize, b: Best, room: usize) -> u32
-    ensures { λ r. ⌜ r ≡ takeRefusal channel b room ⌝ }
-{
-    if 7 < channel {
-        return 17;
-    }
-    if !b.some {
-        return 20;
-    }
-    if room < b.message.length as usize {
-        return 21;
-    }
-    0
-}
 
 pub fn best_on(s: Station, channel: usize) -> Best
     ensures { λ r. ⌜ r ≡ bestOn s channel ⌝ }
@@ -63,7 +47,7 @@ impl Station {
             return crate::station::number_alone(self, m);
         }
         let b = best_on(self, channel);
-        let k = take_refusal(channel, b, room);
+        let k = plain_rules::refusals::take_refusal(channel, b, room);
         if k != 0 {
             return crate::station::number_alone(self, k);
         }

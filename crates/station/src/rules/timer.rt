@@ -1,22 +1,7 @@
 // The timer of a Waiting station.
 ghost use mathlib.Core.Path.{_≡_};
 ghost use Prim.Native.Nat.{_<_};
-ghost use Rattle.station.specs.Timer.{
-  onceMore,
-  again,
-  renamed,
-  tokenAgain,
-  resend,
-  unanswered,
-  leftAlone,
-  goesOn,
-  afterStrike,
-  silence,
-  onTimer,
-  timerRule,
-};
-use crate::rules::round::Bid;
-use crate::rules::round::Sight;
+ghost use Rattle.station.specs.Timer.{onceMore, again, unanswered, leftAlone, goesOn, afterStrike, silence, onTimer, timerRule};
 use crate::rules::strike::Struck;
 use crate::station::Answer;
 use crate::station::Payload;
@@ -66,74 +51,11 @@ pub fn send_again(s: Station) -> Answer
     }
 }
 
-pub fn rename(v: Sight, to: u8, b: Bid) -> Bid
-    ensures { λ r. ⌜ r ≡ renamed v to b ⌝ }
-{
-    if b.named == to {
-        return crate::rules::round::own_bid(v);
-    }
-    b
-}
-
-pub fn token_again(v: Sight, number: u16, to: u8, master: u8, b: Bid) -> Dispatch
-    ensures { λ r. ⌜ r ≡ tokenAgain v number to master b ⌝ }
-{
-    let w = Whom::Member(to);
-    if master == v.own {
-        return crate::rules::round::round_from(v, number, w);
-    }
-    if !parts::live::is_live(v.live, master as usize) {
-        return crate::rules::round::round_from(v, number, w);
-    }
-    let c = rename(v, to, b);
-    crate::rules::round::forward_to(v, number, master, w, c)
-}
-
-// What goes out after the last timer of a frame to `to`.
-pub fn send_instead(v: Sight, to: u8, f: Frame) -> Dispatch
-    ensures { λ r. ⌜ r ≡ resend v to f ⌝ }
-{
-    match f {
-        Frame::Token {
-            number,
-            priority,
-            master,
-            failing: _,
-            named,
-        } => {
-            let k = parts::frame::next_number(number);
-            let b = Bid { priority, named };
-            token_again(v, k, to, master, b)
-        }
-        Frame::Transmit {
-            number,
-            priority: _,
-            master: _,
-            named: _,
-        } => {
-            let k = parts::frame::next_number(number);
-            let w = Whom::Member(to);
-            crate::rules::round::round_from(v, k, w)
-        }
-        Frame::Information {
-            number,
-            priority: _,
-            channel: _,
-            length: _,
-            place: _,
-        } => {
-            let k = parts::frame::next_number(number);
-            let w = Whom::Member(to);
-            crate::rules::round::round_from(v, k, w)
-        }
-    }
-}
-
 // The addressee is struck, and what goes with it is given up.
 pub fn give_up_on(s: Station, to: u8) -> Struck
     ensures { λ r. ⌜ r ≡ unanswered s to ⌝ }
 {
-    let w = crate::rules::strike::newly_struck(s.live, to);
+    let w = plain_rules::heard::newly_struck(s.live, to);
     let t = crate::rules::strike::strike_out(s, to);
     let l = crate::rules::strike::give_up_to(t, to);
     let m = crate::rules::strike::give_up_flight(l);
@@ -184,7 +106,7 @@ pub fn after_strike(k: Struck, to: u8, f: Frame) -> Answer
     }
     let t = crate::station::at_rest(s, State::Idle);
     let v = crate::rules::round::look(t);
-    let d = send_instead(v, to, f);
+    let d = plain_rules::resend::send_instead(v, to, f);
     go_on(k, d)
 }
 

@@ -11,7 +11,8 @@ use Rattle.parts.specs.Messages.{splitBy}
 use Rattle.parts.specs.Live.{liveAt, without}
 use Rattle.parts.specs.Frames.{flight}
 use Rattle.station.specs.Stations.{stateOf, awaitedOf, alone, quiet, counted, withSends}
-use Rattle.station.specs.Strike.{newly, strike, nothingGone, giveUpTo, leave, told, stopped}
+use Rattle.station.specs.Strike.{strike, nothingGone, giveUpTo, leave, told, stopped}
+use Rattle.plain_rules.specs.Heard.{newly}
 use Rattle.station.specs.Heard.{strikeOther, strikeHeard, failed}
 use Rattle.wholeness.specs.Whole.{ownSeat, otherSeat, companyGood, listGood, waitersGood, awaitedGood}
 use Rattle.parts.specs.declared.moves.State.the-variants.{Alone, Excluded}

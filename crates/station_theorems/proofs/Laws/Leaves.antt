@@ -11,7 +11,8 @@ use Rattle.parts.specs.Choose.{pick}
 use Rattle.parts.specs.Messages.{all, none, flies, fits, only}
 use Rattle.parts.specs.Frames.{flight}
 use Rattle.station.specs.Stations.{awaitedOf, alone}
-use Rattle.station.specs.Strike.{newly, strike, nothingGone, giveUpTo, giveUpFlight}
+use Rattle.station.specs.Strike.{strike, nothingGone, giveUpTo, giveUpFlight}
+use Rattle.plain_rules.specs.Heard.{newly}
 use Rattle.station.specs.Heard.{landed, strikeOther, strikeHeard, failed}
 use Rattle.wholeness.specs.Whole.{apart}
 use Rattle.parts.specs.declared.list.Message.{Message}

@@ -13,7 +13,8 @@ use Rattle.parts.specs.Messages.{all, pack, pushed, only, fits, splitBy, noBest
 use Rattle.parts.specs.Live.{liveAt}
 use Rattle.parts.specs.Frames.{numberOf, next}
 use Rattle.station.specs.Stations.{awaitedOf, addUpTo, head}
-use Rattle.station.specs.Round.{sight, priorityOf, startRound, sendHead, grant, returned, cleared, raised, passOn, onToken, reply}
+use Rattle.station.specs.Round.{sight}
+use Rattle.plain_rules.specs.Round.{priorityOf, startRound, sendHead, grant, returned, cleared, raised, passOn, onToken, reply}
 use Rattle.parts.specs.declared.list.Message.{Message}
 use Rattle.parts.specs.declared.list.Messages.{Messages}
 use Rattle.parts.specs.declared.list.Which.{Which}
@@ -24,8 +25,8 @@ use Rattle.parts.specs.declared.frame.Frame.{Frame}
 use Rattle.parts.specs.declared.frame.Frame.the-variants.{Token, Transmit, Information}
 use Rattle.parts.specs.declared.frame.Dispatch.{Dispatch}
 use Rattle.parts.specs.declared.frame.Dispatch.the-variants.{Nothing, Sent}
-use Rattle.station.specs.declared.rules.round.Bid.{Bid}
-use Rattle.station.specs.declared.rules.round.Sight.{Sight}
+use Rattle.plain_rules.specs.declared.round.Bid.{Bid}
+use Rattle.plain_rules.specs.declared.round.Sight.{Sight}
 use Rattle.station.specs.declared.station.Handled.{Handled}
 use Rattle.station.specs.declared.station.Handled.the-variants.{Never, Last}
 use Rattle.station.specs.declared.station.Station.{Station}

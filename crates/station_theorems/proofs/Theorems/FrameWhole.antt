@@ -12,7 +12,8 @@ use Rattle.parts.specs.Moves.{moveOf, runs}
 use Rattle.parts.specs.Live.{liveAt}
 use Rattle.parts.specs.Frames.{numberOf, failingOf, fit}
 use Rattle.station.specs.Stations.{stateOf}
-use Rattle.station.specs.Heard.{heardRefusal, acknowledge, failed, nothingMore, stored, handle, silent, respond, heard, frameRule}
+use Rattle.station.specs.Heard.{acknowledge, failed, nothingMore, stored, handle, silent, respond, heard, frameRule}
+use Rattle.plain_rules.specs.Refusals.{heardRefusal}
 use Rattle.parts.specs.declared.moves.State.the-variants.{Idle}
 use Rattle.parts.specs.declared.moves.Event.the-variants.{Heard}
 use Rattle.parts.specs.declared.frame.Frame.{Frame}

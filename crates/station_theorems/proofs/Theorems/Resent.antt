@@ -11,7 +11,8 @@ use Rattle.parts.specs.Live.{liveAt}
 use Rattle.parts.specs.Messages.{none}
 use Rattle.parts.specs.Frames.{numberOf, failingOf}
 use Rattle.station.specs.Stations.{stateOf, awaitedOf, alone}
-use Rattle.station.specs.Strike.{newly, strike, giveUpTo, told}
+use Rattle.station.specs.Strike.{strike, giveUpTo, told}
+use Rattle.plain_rules.specs.Heard.{newly}
 use Rattle.station.specs.Heard.{acknowledged, acknowledge, strikeOther, strikeHeard, failed, isLast, nothingMore, respond, heard, checks, frameRule, silent}
 use Rattle.station.specs.Timer.{unanswered, afterStrike, timerRule}
 use Rattle.parts.specs.declared.moves.State.the-variants.{Waiting}

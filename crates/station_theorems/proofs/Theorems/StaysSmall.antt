@@ -12,12 +12,15 @@ use Rattle.parts.specs.Messages.{all, pushed}
 use Rattle.parts.specs.Live.{liveAt}
 use Rattle.parts.specs.Frames.{numberOf, next, failingOf, flight}
 use Rattle.station.specs.Stations.{awaitedOf, made, withSends, withLive, quiet, sending, head, answered, moved, unless, alone}
-use Rattle.station.specs.Round.{ownBid, forward, startRound}
+use Rattle.plain_rules.specs.Round.{ownBid, forward, startRound}
 use Rattle.station.specs.Start.{started, startRule}
-use Rattle.station.specs.Strike.{strike, giveUpTo, giveUpAt, giveUpFlight, leave, messageAt, nothingGone, newly, told, stopped}
+use Rattle.station.specs.Strike.{strike, giveUpTo, giveUpAt, giveUpFlight, leave, messageAt, nothingGone, told, stopped}
+use Rattle.plain_rules.specs.Heard.{newly}
 use Rattle.station.specs.Heard.{acknowledged, landed, acknowledge, strikeOther, strikeHeard, failed, nothingMore, heardMessage, receive, stored, handle, respond, heard, frameRule}
-use Rattle.station.specs.Timer.{tokenAgain, renamed, resend, unanswered, afterStrike, silence, onTimer, timerRule}
-use Rattle.station.specs.Queue.{queueRefusal, queueNumber, newMessage, accepted, queueRule}
+use Rattle.station.specs.Timer.{unanswered, afterStrike, silence, onTimer, timerRule}
+use Rattle.plain_rules.specs.Resend.{tokenAgain, renamed, resend}
+use Rattle.station.specs.Queue.{queueNumber, newMessage, accepted, queueRule}
+use Rattle.plain_rules.specs.Refusals.{queueRefusal}
 use Rattle.station.specs.Take.{taking, takeRule}
 use Rattle.parts.specs.declared.list.Message.{Message}
 use Rattle.parts.specs.declared.list.Messages.{Messages}
@@ -34,8 +37,8 @@ use Rattle.parts.specs.declared.moves.State.the-variants.{Idle, Alone, Excluded
 use Rattle.station.specs.declared.rules.strike.Loss.{Loss}
 use Rattle.station.specs.declared.rules.strike.Struck.{Struck}
 use Rattle.station.specs.declared.rules.heard.Stored.{Stored}
-use Rattle.station.specs.declared.rules.round.Sight.{Sight}
-use Rattle.station.specs.declared.rules.round.Bid.{Bid}
+use Rattle.plain_rules.specs.declared.round.Sight.{Sight}
+use Rattle.plain_rules.specs.declared.round.Bid.{Bid}
 use Rattle.station.specs.declared.station.Handled.{Handled}
 use Rattle.station.specs.declared.station.Handled.the-variants.{Last}
 use Rattle.station.specs.declared.station.Station.{Station}

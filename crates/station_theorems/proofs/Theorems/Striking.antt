@@ -7,7 +7,7 @@ use Rattle.parts.specs.Moves.{moveOf, runs}
 use Rattle.parts.specs.Live.{liveAt, without}
 use Rattle.parts.specs.Frames.{failingOf}
 use Rattle.station.specs.Stations.{stateOf, awaitedOf}
-use Rattle.station.specs.Strike.{newly}
+use Rattle.plain_rules.specs.Heard.{newly}
 use Rattle.station.specs.Heard.{heard, checks, frameRule}
 use Rattle.station.specs.Timer.{timerRule}
 use Rattle.parts.specs.declared.moves.State.the-variants.{Waiting}

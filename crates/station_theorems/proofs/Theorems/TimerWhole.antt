@@ -11,7 +11,8 @@ use Rattle.parts.specs.Frames.{noFlight, flight, fit}
 use Rattle.station.specs.Stations.{stateOf, awaitedOf, alone, quiet, counted}
 use Rattle.station.specs.Round.{sight}
 use Rattle.station.specs.Strike.{strike, giveUpTo}
-use Rattle.station.specs.Timer.{again, leftAlone, goesOn, resend, unanswered, afterStrike, silence, onTimer, timerRule}
+use Rattle.station.specs.Timer.{again, leftAlone, goesOn, unanswered, afterStrike, silence, onTimer, timerRule}
+use Rattle.plain_rules.specs.Resend.{resend}
 use Rattle.wholeness.specs.Whole.{awaitedGood}
 use Rattle.parts.specs.declared.moves.State.{State}
 use Rattle.parts.specs.declared.moves.State.the-variants.{Idle}

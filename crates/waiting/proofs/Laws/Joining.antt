@@ -19,7 +19,7 @@ use Rattle.parts.specs.declared.moves.Event.the-variants.{Queue}
 use Rattle.parts.specs.declared.list.Flight.{Flight}
 use Rattle.parts.specs.declared.list.Message.{Message}
 use Rattle.station.specs.declared.station.Station.{Station}
-use Rattle.station.proofs.Laws.Queue.{queue-good}
+use Rattle.plain_rules.proofs.Laws.Queue.{queue-good}
 use Rattle.station_theorems.proofs.Laws.Based.{in-flight}
 use Rattle.station_theorems.proofs.Laws.Carried.{best-somewhere}
 use Rattle.station_theorems.proofs.Laws.Kept.{push-all}

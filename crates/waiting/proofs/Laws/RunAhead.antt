@@ -9,7 +9,7 @@ use borrow.Author.Tests.{eq-eqb, ne-eqb}
 use Rattle.parts.specs.Messages.{all}
 use Rattle.parts.specs.Frames.{flight, flightIn}
 use Rattle.station.specs.Stations.{awaitedOf}
-use Rattle.station.specs.Round.{reply}
+use Rattle.plain_rules.specs.Round.{reply}
 use Rattle.parts.specs.declared.list.Message.{Message}
 use Rattle.parts.specs.declared.frame.Whom.{Whom}
 use Rattle.parts.specs.declared.frame.Frame.{Frame}

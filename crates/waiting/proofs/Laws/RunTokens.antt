@@ -7,7 +7,7 @@ use native.Mathlib.Omega.{arith}
 use Rattle.parts.specs.Choose.{pick}
 use Rattle.parts.specs.Live.{after}
 use Rattle.parts.specs.Frames.{next}
-use Rattle.station.specs.Round.{priorityOf}
+use Rattle.plain_rules.specs.Round.{priorityOf}
 use Rattle.parts.specs.declared.list.Message.{Message}
 use Rattle.parts.specs.declared.frame.Whom.the-variants.{Nobody}
 use Rattle.parts.specs.declared.frame.Frame.the-variants.{Token, Transmit}

@@ -6,7 +6,7 @@ use mathlib.Core.Bool.{true, false}
 use mathlib.Core.List.{List, _∷_, _++_}
 use Prim.Native.Nat.{ℕ, _+_, _*_, _<_, _≤_}
 use native.Mathlib.Omega.{arith}
-use Rattle.station.specs.Round.{informationOf}
+use Rattle.plain_rules.specs.Round.{informationOf}
 use Rattle.station.specs.Queue.{newMessage}
 use Rattle.parts.specs.declared.list.Message.{Message}
 use Rattle.bench.specs.Ring.{stationAt}

@@ -4,7 +4,7 @@ use Prim.Native.Nat.{_≤_}
 use native.Mathlib.Omega.{arith}
 use Rattle.station.specs.Queue.{queueRule}
 use Rattle.station.proofs.Laws.Moved.{moved-runs, moved-stops, unless-passes, unless-refuses}
-use Rattle.station.proofs.Laws.Queue.{queue-good}
+use Rattle.plain_rules.proofs.Laws.Queue.{queue-good}
 use borrow.Author.Needs.{needs}
 use Rattle.station.proofs.station.Station.queue.Statement.{statement}
 use Rattle.station.proofs.station.Station.queue.Tie as tie

@@ -1,6 +1,7 @@
 -- `Station::take` meets its contract: the table of moves, then the checks, then the message is handed out.
 use mathlib.Core.Path.{sym, ap, _∙_}
-use Rattle.station.specs.Take.{takeRefusal, takeRule}
+use Rattle.station.specs.Take.{takeRule}
+use Rattle.plain_rules.specs.Refusals.{takeRefusal}
 use Rattle.parts.specs.declared.list.Best.{Best}
 use Rattle.station.proofs.Laws.Moved.{moved-runs, moved-stops, unless-passes, unless-refuses}
 use borrow.Author.Needs.{needs}

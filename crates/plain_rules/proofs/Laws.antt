@@ -1,0 +1,3 @@
+-- Laws of the definitions that the functions' proofs use, one file for each.
+pub mod Queue
+pub mod Resend

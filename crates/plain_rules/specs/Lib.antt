@@ -1,0 +1,4 @@
+pub mod Round
+pub mod Resend
+pub mod Refusals
+pub mod Heard

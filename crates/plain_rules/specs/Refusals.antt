@@ -1,0 +1,42 @@
+-- Checks in their order: the number of the first that holds, or 0.
+use mathlib.Core.Bool.{Bool, not}
+use mathlib.Core.List.{List, [], _∷_}
+use Prim.Native.Nat.{ℕ}
+use lib.Dec.{leb, eqb, ltb}
+use Rattle.codec.specs.Order.{firstOf}
+use Rattle.parts.specs.declared.list.Best.{Best}
+
+-- sender or addressee not a member, both the same, sender not live or this station
+unfoldable pub heardRefusal : ℕ → ℕ → Bool → ℕ → ℕ → ℕ
+heardRefusal n own alive from to =
+    firstOf 0
+    ((leb n from, 13)
+    ∷ (leb n to, 13)
+    ∷ (eqb from to, 13)
+    ∷ (not alive, 13)
+    ∷ (eqb from own, 13)
+    ∷ [])
+
+-- priority 0 or above 255; destination not a member, or this station; struck out; channel above 7; payload above 1,492;
+-- 16 messages in the send list
+unfoldable pub queueRefusal : ℕ → ℕ → Bool → ℕ → ℕ → ℕ → ℕ → ℕ → ℕ
+queueRefusal n own live len to priority channel length =
+    firstOf 0
+    ((eqb priority 0, 14)
+    ∷ (ltb 255 priority, 14)
+    ∷ (leb n to, 15)
+    ∷ (eqb to own, 15)
+    ∷ (not live, 16)
+    ∷ (ltb 7 channel, 17)
+    ∷ (ltb 1492 length, 18)
+    ∷ (leb 16 len, 19)
+    ∷ [])
+
+-- channel above 7; no message on the channel; take's room shorter than the message
+unfoldable pub takeRefusal : ℕ → Best → ℕ → ℕ
+takeRefusal channel b room =
+    firstOf 0
+    ((ltb 7 channel, 17)
+    ∷ (not (b .some), 20)
+    ∷ (ltb room (b .message .length), 21)
+    ∷ [])

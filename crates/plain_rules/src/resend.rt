@@ -1,0 +1,71 @@
+// What is sent after the last timer, in place of a frame that its addressee did not acknowledge.
+ghost use mathlib.Core.Path.{_≡_};
+ghost use Rattle.plain_rules.specs.Resend.{renamed, tokenAgain, resend};
+use crate::round::Bid;
+use crate::round::Sight;
+use parts::frame::Dispatch;
+use parts::frame::Frame;
+use parts::frame::Whom;
+
+pub fn rename(v: Sight, to: u8, b: Bid) -> Bid
+    ensures { λ r. ⌜ r ≡ renamed v to b ⌝ }
+{
+    if b.named == to {
+        return crate::round::own_bid(v);
+    }
+    b
+}
+
+pub fn token_again(v: Sight, number: u16, to: u8, master: u8, b: Bid) -> Dispatch
+    ensures { λ r. ⌜ r ≡ tokenAgain v number to master b ⌝ }
+{
+    let w = Whom::Member(to);
+    if master == v.own {
+        return crate::round::round_from(v, number, w);
+    }
+    if !parts::live::is_live(v.live, master as usize) {
+        return crate::round::round_from(v, number, w);
+    }
+    let c = rename(v, to, b);
+    crate::round::forward_to(v, number, master, w, c)
+}
+
+// What goes out after the last timer of a frame to `to`.
+pub fn send_instead(v: Sight, to: u8, f: Frame) -> Dispatch
+    ensures { λ r. ⌜ r ≡ resend v to f ⌝ }
+{
+    match f {
+        Frame::Token {
+            number,
+            priority,
+            master,
+            failing: _,
+            named,
+        } => {
+            let k = parts::frame::next_number(number);
+            let b = Bid { priority, named };
+            token_again(v, k, to, master, b)
+        }
+        Frame::Transmit {
+            number,
+            priority: _,
+            master: _,
+            named: _,
+        } => {
+            let k = parts::frame::next_number(number);
+            let w = Whom::Member(to);
+            crate::round::round_from(v, k, w)
+        }
+        Frame::Information {
+            number,
+            priority: _,
+            channel: _,
+            length: _,
+            place: _,
+        } => {
+            let k = parts::frame::next_number(number);
+            let w = Whom::Member(to);
+            crate::round::round_from(v, k, w)
+        }
+    }
+}

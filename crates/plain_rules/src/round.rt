@@ -1,0 +1,211 @@
+// What is sent: starting a round, sending the head, granting, passing a token on.
+ghost use mathlib.Core.Path.{_≡_};
+ghost use Rattle.plain_rules.specs.Round.{
+  priorityOf,
+  startRound,
+  sendHead,
+  grant,
+  returned,
+  ownBid,
+  cleared,
+  raised,
+  forward,
+  passOn,
+  onToken,
+  reply,
+};
+use parts::frame::Dispatch;
+use parts::frame::Frame;
+use parts::frame::Whom;
+use parts::list::Best;
+use parts::live::Live;
+
+// What a station looks at when it composes a frame.
+pub struct Sight {
+    pub own: u8,
+    pub live: Live,
+    pub next: u8,
+    pub head: Best,
+}
+
+// A token's priority and its named station.
+pub struct Bid {
+    pub priority: u8,
+    pub named: u8,
+}
+
+pub fn head_priority(b: Best) -> u8
+    ensures { λ r. ⌜ r ≡ priorityOf b ⌝ }
+{
+    if b.some { b.message.priority } else { 0 }
+}
+
+pub fn round_from(v: Sight, number: u16, failing: Whom) -> Dispatch
+    ensures { λ r. ⌜ r ≡ startRound v number failing ⌝ }
+{
+    let priority = head_priority(v.head);
+    let frame = Frame::Token {
+        number,
+        priority,
+        master: v.own,
+        failing,
+        named: v.own,
+    };
+    Dispatch::Sent { frame, to: v.next }
+}
+
+// Told to send.
+pub fn send_head(v: Sight, number: u16) -> Dispatch
+    ensures { λ r. ⌜ r ≡ sendHead v number ⌝ }
+{
+    let b = v.head;
+    if b.some {
+        let m = b.message;
+        let frame = Frame::Information {
+            number,
+            priority: m.priority,
+            channel: m.channel,
+            length: m.length,
+            place: m.place,
+        };
+        return Dispatch::Sent { frame, to: m.other };
+    }
+    round_from(v, number, Whom::Nobody)
+}
+
+// Told to grant.
+pub fn grant_to(v: Sight, number: u16, priority: u8, named: u8) -> Dispatch
+    ensures { λ r. ⌜ r ≡ grant v number priority named ⌝ }
+{
+    if parts::live::is_live(v.live, named as usize) {
+        let frame = Frame::Transmit {
+            number,
+            priority,
+            master: v.own,
+            named,
+        };
+        return Dispatch::Sent { frame, to: named };
+    }
+    round_from(v, number, Whom::Nobody)
+}
+
+// A token that comes back to its master.
+pub fn token_back(v: Sight, number: u16, priority: u8, named: u8) -> Dispatch
+    ensures { λ r. ⌜ r ≡ returned v number priority named ⌝ }
+{
+    if priority == 0 {
+        return round_from(v, number, Whom::Nobody);
+    }
+    if named == v.own {
+        return send_head(v, number);
+    }
+    grant_to(v, number, priority, named)
+}
+
+pub fn own_bid(v: Sight) -> Bid
+    ensures { λ r. ⌜ r ≡ ownBid v ⌝ }
+{
+    let priority = head_priority(v.head);
+    Bid {
+        priority,
+        named: v.own,
+    }
+}
+
+pub fn clear_bid(v: Sight, b: Bid) -> Bid
+    ensures { λ r. ⌜ r ≡ cleared v b ⌝ }
+{
+    if parts::live::is_live(v.live, b.named as usize) {
+        return b;
+    }
+    own_bid(v)
+}
+
+// Only a greater priority replaces the token's.
+pub fn raise_bid(v: Sight, b: Bid) -> Bid
+    ensures { λ r. ⌜ r ≡ raised v b ⌝ }
+{
+    let p = head_priority(v.head);
+    if b.priority < p {
+        return own_bid(v);
+    }
+    b
+}
+
+pub fn forward_to(v: Sight, number: u16, master: u8, failing: Whom, b: Bid) -> Dispatch
+    ensures { λ r. ⌜ r ≡ forward v number master failing b ⌝ }
+{
+    let frame = Frame::Token {
+        number,
+        priority: b.priority,
+        master,
+        failing,
+        named: b.named,
+    };
+    Dispatch::Sent { frame, to: v.next }
+}
+
+pub fn pass_on(v: Sight, number: u16, master: u8, failing: Whom, b: Bid) -> Dispatch
+    ensures { λ r. ⌜ r ≡ passOn v number master failing b ⌝ }
+{
+    if parts::live::is_live(v.live, master as usize) {
+        let c = clear_bid(v, b);
+        let d = raise_bid(v, c);
+        return forward_to(v, number, master, failing, d);
+    }
+    round_from(v, number, Whom::Nobody)
+}
+
+pub fn on_token(
+    v: Sight,
+    number: u16,
+    priority: u8,
+    master: u8,
+    failing: Whom,
+    named: u8,
+) -> Dispatch
+    ensures { λ r. ⌜ r ≡ onToken v number priority master failing named ⌝ }
+{
+    if master == v.own {
+        return token_back(v, number, priority, named);
+    }
+    let b = Bid { priority, named };
+    pass_on(v, number, master, failing, b)
+}
+
+// The frame sent on a heard one.
+pub fn reply_to(v: Sight, f: Frame) -> Dispatch
+    ensures { λ r. ⌜ r ≡ reply v f ⌝ }
+{
+    match f {
+        Frame::Token {
+            number,
+            priority,
+            master,
+            failing,
+            named,
+        } => {
+            let k = parts::frame::next_number(number);
+            on_token(v, k, priority, master, failing, named)
+        }
+        Frame::Transmit {
+            number,
+            priority: _,
+            master: _,
+            named: _,
+        } => {
+            let k = parts::frame::next_number(number);
+            send_head(v, k)
+        }
+        Frame::Information {
+            number,
+            priority: _,
+            channel: _,
+            length: _,
+            place: _,
+        } => {
+            let k = parts::frame::next_number(number);
+            round_from(v, k, Whom::Nobody)
+        }
+    }
+}
