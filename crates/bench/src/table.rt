@@ -6,6 +6,7 @@ ghost use lib.ListN.{length, length as count, getD, set};
 ghost use Rattle.codec.specs.Octets.{laid};
 ghost use Rattle.parts.specs.Live.{seats};
 ghost use Rattle.parts.specs.Frames.{failingOf};
+ghost use Rattle.station.specs.Stations.{withTurn};
 ghost use Rattle.station.specs.Heard.{frameRule};
 ghost use Rattle.station.specs.Queue.{queueRule};
 ghost use Rattle.bench.specs.Ring.{nobody};
@@ -16,6 +17,7 @@ use crate::ring::Wire;
 use parts::frame::Dispatch;
 use parts::frame::Frame;
 use station::station::Station;
+use station::station::Turn;
 
 // A frame that is handed round a ring of `n`, with `m` records in the table; `quiet` where it names no failing station.
 pub struct Handing {
@@ -83,6 +85,14 @@ pub fn hear_at(table: &mut [Station], p: usize, frame: Frame, from: u8, to: u8) 
     let d = s.frame(frame, from, to);
     table[p] = d.station;
     d.sent
+}
+
+// The turn of the station at `p`.
+pub fn turn_at(table: &mut [Station], p: usize, turn: Turn)
+    requires { ⌜ p < length (now table) ⌝ }
+    ensures { λ _. ⌜ now (table .exit) ≡ set (now (table .entry)) p (withTurn (getD (now (table .entry)) p nobody) turn) ⌝ }
+{
+    table[p].turn = turn;
 }
 
 // A frame is handed to every other station; the addressee's new frame.
