@@ -2,14 +2,17 @@
 use mathlib.Core.Bool.{Bool, true, false}
 use mathlib.Core.List.{List, [], _∷_}
 use Prim.Native.Nat.{ℕ}
+use lib.Dec.{eqb}
 use Rattle.parts.specs.Choose.{pick}
 use Rattle.codec.specs.Order.{firstOf}
+use Rattle.parts.specs.Moves.{moveOf, runs}
 use Rattle.parts.specs.Messages.{none}
 use Rattle.parts.specs.Frames.{numberOf, flight, failingOf}
-use Rattle.station.specs.Stations.{withTurn, quietTurn, sendingTurn}
+use Rattle.station.specs.Stations.{stateOf, withTurn, quietTurn, sendingTurn}
 use Rattle.station.specs.Round.{sight, reply}
-use Rattle.station.specs.Heard.{acknowledged, stops}
+use Rattle.station.specs.Heard.{acknowledged, stops, checks}
 use Rattle.parts.specs.declared.moves.State.the-variants.{Idle}
+use Rattle.parts.specs.declared.moves.Event.the-variants.{Heard}
 use Rattle.parts.specs.declared.frame.Whom.{Whom}
 use Rattle.parts.specs.declared.frame.Whom.the-variants.{Nobody, Member}
 use Rattle.parts.specs.declared.frame.Frame.{Frame}
@@ -77,3 +80,10 @@ turnAlone s l =
       gone = none;
       payload = NoPayload;
     }
+
+-- the same after the table of moves and the checks: what they stop is not told by the turn
+unfoldable pub lightRule : Station → Frame → ℕ → ℕ → Light
+lightRule s f from to =
+    pick (eqb (moveOf (stateOf s) Heard) runs)
+    (pick (eqb (checks s from to) 0) (light s f from to) (heavy (s .turn)))
+    (heavy (s .turn))

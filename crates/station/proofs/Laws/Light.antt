@@ -2,14 +2,18 @@
 use mathlib.Core.Path.{_≡_, refl, sym, ap, _∙_}
 use mathlib.Core.Bool.{Bool, true, false, false≢true}
 use Prim.Native.Nat.{ℕ}
+use lib.Dec.{eqb}
+use borrow.Author.Tests.{eq-eqb, ne-eqb}
 use Rattle.parts.specs.Choose.{pick}
+use Rattle.parts.specs.Moves.{moveOf, runs}
 use Rattle.parts.specs.Messages.{none}
 use Rattle.parts.specs.Frames.{numberOf, flight, noFlight, failingOf}
-use Rattle.station.specs.Stations.{awaitedOf, withTurn, quietTurn, quiet, sendingTurn, head}
+use Rattle.station.specs.Stations.{stateOf, awaitedOf, withTurn, quietTurn, quiet, sendingTurn, answered, moved, unless, head}
 use Rattle.station.specs.Round.{sight, reply}
-use Rattle.station.specs.Heard.{acknowledged, landed, acknowledge, failed, stops, nothingMore, stored, handle, silent, respond, heard}
-use Rattle.station.specs.Light.{changed, heavy, carries, touches, rested, isInformation, replied, lightIf, light, turnAlone}
+use Rattle.station.specs.Heard.{acknowledged, landed, acknowledge, failed, stops, nothingMore, stored, handle, silent, respond, heard, checks, frameRule}
+use Rattle.station.specs.Light.{changed, heavy, carries, touches, rested, isInformation, replied, lightIf, light, turnAlone, lightRule}
 use Rattle.parts.specs.declared.moves.State.the-variants.{Idle}
+use Rattle.parts.specs.declared.moves.Event.the-variants.{Heard}
 use Rattle.parts.specs.declared.list.Flight.{Flight}
 use Rattle.parts.specs.declared.frame.Whom.{Whom}
 use Rattle.parts.specs.declared.frame.Whom.the-variants.{Nobody, Member}
@@ -158,3 +162,31 @@ light-hears s f from to l e ok = touching (touches (failingOf f) (s .turn) a) re
     touching : (b : Bool) → touches (failingOf f) (s .turn) a ≡ b → turnAlone s l ≡ heard s f from to
     touching true h = heavy-not (light-not s f from to (numberOf f) a refl refl h)
     touching false h = stopping (stops (s .own) t to (numberOf f)) refl h
+
+-- ---- the table of moves and the checks come first
+
+module _ (s : Station) (f : Frame) (from to : ℕ) {m : ℕ} (looked : m ≡ moveOf (stateOf s) Heard) where
+  pub lightly-stops : (m ≡ runs → ⊥) → heavy (s .turn) ≡ lightRule s f from to
+  unfolding lightRule
+  lightly-stops n = sym (pick-false _ _ (ne-eqb _ _ (λ r. n (looked ∙ r))))
+
+  module _ (r : m ≡ runs) {k : ℕ} (found : k ≡ checks s from to) where
+    pub lightly-refuses : (k ≡ 0 → ⊥) → heavy (s .turn) ≡ lightRule s f from to
+    unfolding lightRule
+    lightly-refuses n = sym (pick-true _ _ (eq-eqb _ _ (sym looked ∙ r)) ∙ pick-false _ _ (ne-eqb _ _ (λ z. n (found ∙ z))))
+
+    pub lightly-goes : k ≡ 0 → light s f from to ≡ lightRule s f from to
+    unfolding lightRule
+    lightly-goes z = sym (pick-true _ _ (eq-eqb _ _ (sym looked ∙ r)) ∙ pick-true _ _ (eq-eqb _ _ (sym found ∙ z)))
+
+-- a frame that changes the turn alone does what the rule says
+pub lightly-hears : (s : Station) (f : Frame) (from to : ℕ) → lightRule s f from to .ok ≡ true → frameRule s f from to ≡ turnAlone s (lightRule s f from to)
+unfolding lightRule frameRule moved unless pick
+lightly-hears s f from to = go (eqb (moveOf (stateOf s) Heard) runs) (eqb (checks s from to) 0)
+  where
+    go : (b c : Bool) → pick b (pick c (light s f from to) (heavy (s .turn))) (heavy (s .turn)) .ok ≡ true
+        → pick b (pick c (heard s f from to) (answered s (checks s from to))) (answered s (moveOf (stateOf s) Heard))
+        ≡ turnAlone s (pick b (pick c (light s f from to) (heavy (s .turn))) (heavy (s .turn)))
+    go true true ok = sym (light-hears s f from to _ refl ok)
+    go true false ok = absurd (false≢true ok)
+    go false c ok = absurd (false≢true ok)

@@ -10,6 +10,7 @@ ghost use Rattle.station.specs.Light.{
   replied,
   light,
   turnAlone,
+  lightRule,
 };
 use crate::station::Answer;
 use crate::station::Handled;
@@ -19,6 +20,7 @@ use crate::station::Turn;
 use parts::frame::Dispatch;
 use parts::frame::Frame;
 use parts::frame::Whom;
+use parts::moves::Event;
 use parts::moves::State;
 
 // Whether a frame is such a one, and if so the turn after it and the frame to send.
@@ -150,5 +152,24 @@ pub fn turn_alone(s: Station, l: Light) -> Answer
         struck: Whom::Nobody,
         gone,
         payload: Payload::NoPayload,
+    }
+}
+
+impl Station {
+    // A heard frame, as far as the turn alone changes.
+    pub fn lightly(self, f: Frame, from: u8, to: u8) -> Light
+        ensures { λ r. ⌜ r ≡ lightRule self f from to ⌝ }
+    {
+        let turn = self.turn;
+        let state = turn.state;
+        let m = parts::moves::move_of(state, Event::Heard);
+        if m != parts::moves::RUN {
+            return not_light(turn);
+        }
+        let k = crate::rules::heard::check_heard(self, from, to);
+        if k != 0 {
+            return not_light(turn);
+        }
+        light_of(self, f, from, to)
     }
 }
