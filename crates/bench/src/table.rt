@@ -8,6 +8,7 @@ ghost use Rattle.parts.specs.Live.{seats};
 ghost use Rattle.parts.specs.Frames.{failingOf};
 ghost use Rattle.station.specs.Stations.{withTurn};
 ghost use Rattle.station.specs.Heard.{frameRule};
+ghost use Rattle.station.specs.Light.{lightRule};
 ghost use Rattle.station.specs.Queue.{queueRule};
 ghost use Rattle.bench.specs.Ring.{nobody};
 ghost use Rattle.bench.specs.Delivery.{isNobody, handed, delivered, steps};
@@ -16,6 +17,7 @@ ghost use Rattle.bench.specs.Table.{staysAt, touchedIn, handingOf, goesO
 use crate::ring::Wire;
 use parts::frame::Dispatch;
 use parts::frame::Frame;
+use station::rules::light::Light;
 use station::station::Station;
 use station::station::Turn;
 
@@ -75,8 +77,25 @@ pub fn touched_from(table: &[Station], p: usize, h: Handing) -> usize
     q
 }
 
-// The station at `p` hears a frame.
-pub fn hear_at(table: &mut [Station], p: usize, frame: Frame, from: u8, to: u8) -> Dispatch
+// What a frame does to the turn of the station at `p`, where it does nothing else.
+pub fn light_at(table: &[Station], p: usize, frame: Frame, from: u8, to: u8) -> Light
+    requires { ⌜ p < length (now table) ⌝ }
+    ensures { λ r. ⌜ r ≡ lightRule (getD (now (table .entry)) p nobody) frame from to ⌝ }
+{
+    let s = table[p];
+    s.lightly(frame, from, to)
+}
+
+// The turn of the station at `p`.
+pub fn turn_at(table: &mut [Station], p: usize, turn: Turn)
+    requires { ⌜ p < length (now table) ⌝ }
+    ensures { λ _. ⌜ now (table .exit) ≡ set (now (table .entry)) p (withTurn (getD (now (table .entry)) p nobody) turn) ⌝ }
+{
+    table[p].turn = turn;
+}
+
+// The station at `p` goes through the rule by value.
+pub fn step_at(table: &mut [Station], p: usize, frame: Frame, from: u8, to: u8) -> Dispatch
     requires { ⌜ p < length (now table) ⌝ }
     ensures { λ r. ⌜ (r ≡ frameRule (getD (now (table .entry)) p nobody) frame from to .sent)
         × (now (table .exit) ≡ set (now (table .entry)) p (frameRule (getD (now (table .entry)) p nobody) frame from to .station)) ⌝ }
@@ -87,12 +106,18 @@ pub fn hear_at(table: &mut [Station], p: usize, frame: Frame, from: u8, to: u8) 
     d.sent
 }
 
-// The turn of the station at `p`.
-pub fn turn_at(table: &mut [Station], p: usize, turn: Turn)
+// The station at `p` hears a frame. Most frames change the turn alone, and then the record is not copied.
+pub fn hear_at(table: &mut [Station], p: usize, frame: Frame, from: u8, to: u8) -> Dispatch
     requires { ⌜ p < length (now table) ⌝ }
-    ensures { λ _. ⌜ now (table .exit) ≡ set (now (table .entry)) p (withTurn (getD (now (table .entry)) p nobody) turn) ⌝ }
+    ensures { λ r. ⌜ (r ≡ frameRule (getD (now (table .entry)) p nobody) frame from to .sent)
+        × (now (table .exit) ≡ set (now (table .entry)) p (frameRule (getD (now (table .entry)) p nobody) frame from to .station)) ⌝ }
 {
-    table[p].turn = turn;
+    let l = light_at(&*table, p, frame, from, to);
+    if l.ok {
+        turn_at(&mut *table, p, l.turn);
+        return l.sent;
+    }
+    step_at(&mut *table, p, frame, from, to)
 }
 
 // A frame is handed to every other station; the addressee's new frame.

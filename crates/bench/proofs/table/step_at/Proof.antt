@@ -1,4 +1,4 @@
--- Written by tools/walk. `table::hear_at` meets its contract: a walk of its MIR. The borrow is opened, the record is copied out, `Station::frame` is called with it, the station that it hands back is stored in its place, and the borrow is closed.
+-- Written by tools/walk. `table::step_at` meets its contract: a walk of its MIR. The borrow is opened, the record is copied out, `Station::frame` is called with it, the station that it hands back is stored in its place, and the borrow is closed.
 -- Assumes nothing.
 use mathlib.Core.Path.{_≡_, refl, sym, ap, subst}
 use Prim.Native.Nat.{ℕ, _<_, _^_, _*_}
@@ -48,7 +48,7 @@ use Rattle.station.specs.declared.station.Answer.{Answer}
 use Rattle.bench.specs.Ring.{nobody}
 use Rattle.station.specs.Heard.{frameRule}
 use Rattle.station.proofs.station.Station.frame.Symbol.{name as #callee}
-use Rattle.bench.proofs.table.hear_at.Key.{name as #self}
+use Rattle.bench.proofs.table.step_at.Key.{name as #self}
 use Rattle.parts.proofs.frame.Frame as Frame-row
 use Rattle.parts.proofs.frame.Frame.Laws as Frame-row′
 use denote.Enum.Laws as EL
@@ -62,9 +62,9 @@ use Rattle.station.proofs.station.Answer.Laws as D′
 use Rattle.station.proofs.station.Station.frame as callee
 use Rattle.station.proofs.station.Station.frame.Symbol as callee-def
 use Rattle.station.proofs.station.Station.frame.Met as callee-thm
-use Rattle.bench.proofs.table.hear_at as self
-use Rattle.bench.proofs.table.hear_at.Statement as stated
-use Rattle.bench.proofs.table.hear_at.Code as code
+use Rattle.bench.proofs.table.step_at as self
+use Rattle.bench.proofs.table.step_at.Statement as stated
+use Rattle.bench.proofs.table.step_at.Code as code
 
 -- the types of a struct's fields
 abbrev fieldTypes : Declared → Tys
@@ -186,9 +186,9 @@ meets 𝓤 H A W mem run 𝓣 known =
     walk-meets 𝓤 H A self.ended stayed W (goes-slice 𝓤 H A W 1 0 tt (plain (λ _. T.the-row)), (goes-none 𝓤 H A W 1 (λ _. usize) yes (λ κs x f. refl), (goes-none 𝓤 H A W 1 (λ _. Frame-row.the-row) yes (λ κs x f. refl), (goes-none 𝓤 H A W 1 (λ _. u8) yes (λ κs x f. refl), (goes-none 𝓤 H A W 1 (λ _. u8) yes (λ κs x f. refl), tt))))) (self.clauses 𝓤 H A mem run)
     (WpFn 𝓤 H (𝓣 .C) (𝓣 .Λ) code.function) (WpFn-mono 𝓤 H (W .laws) 𝓣 code.function) (walks 𝓤 H A W mem run (𝓣 .C) (𝓣 .Λ) (fmOf 𝓤 H (W .laws) 𝓣) known)
 
-pub hear-at-spec : {M : Type 1} → stated.statement M
+pub step-at-spec : {M : Type 1} → stated.statement M
 unfolding code.routine tablesOf
-hear-at-spec 𝓤 H 𝓜 𝓖 𝓡 =
+step-at-spec 𝓤 H 𝓜 𝓖 𝓡 =
     entered 𝓤 H (tripleOf 𝓤 H (𝓖 .A) self.signature (self.spec 𝓤 H (𝓖 .A) (𝓜 .mem) (𝓡 .run)))
     (tables 𝓤 H 𝓜 𝓡 code.env .C) (tables 𝓤 H 𝓜 𝓡 code.env .Λ) #self code.function (code.unfolded 𝓤 H 𝓜 𝓡)
     (meets 𝓤 H (𝓖 .A) (givenOf 𝓤 H 𝓜 𝓖) (𝓜 .mem) (𝓡 .run) (tablesOf 𝓤 H 𝓜 (tables 𝓤 H 𝓜 𝓡 code.env))
