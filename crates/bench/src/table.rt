@@ -106,7 +106,7 @@ pub fn step_at(table: &mut [Station], p: usize, frame: Frame, from: u8, to: u8) 
     d.sent
 }
 
-// The station at `p` hears a frame. Most frames change the turn alone, and then the record is not copied.
+// The station at `p` hears a frame. Most frames change the turn alone, and then only the turn is stored.
 pub fn hear_at(table: &mut [Station], p: usize, frame: Frame, from: u8, to: u8) -> Dispatch
     requires { ⌜ p < length (now table) ⌝ }
     ensures { λ r. ⌜ (r ≡ frameRule (getD (now (table .entry)) p nobody) frame from to .sent)
