@@ -86,13 +86,16 @@ isBlank m =
     allOf
     (eqb (m .other) 0 ∷ eqb (m .priority) 0 ∷ eqb (m .channel) 0 ∷ eqb (m .length) 0 ∷ eqb (m .place) 0 ∷ [])
 
+abbrev pub restBlank : Messages → Bool
+restBlank l = every isBlank (drop (l .len) (l .items))
+
 unfoldable pub listGood : ℕ → ℕ → Messages → Bool
 listGood n own l =
     allOf
     (leb (l .len) 16
     ∷ every (messageGood n own) (all l)
     ∷ apart [] (all l)
-    ∷ every isBlank (drop (l .len) (l .items))
+    ∷ restBlank l
     ∷ [])
 
 unfoldable pub listsGood : Station → Bool

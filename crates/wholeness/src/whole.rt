@@ -1,7 +1,7 @@
 // Whether a station is whole.
 ghost use mathlib.Core.Path.{_≡_};
+ghost use mathlib.Core.Bool.{true};
 ghost use mathlib.Core.List.{[]};
-ghost use lib.ListN.{drop};
 ghost use Rattle.parts.specs.Choose.{every};
 ghost use Rattle.parts.specs.Messages.{all};
 ghost use Rattle.wholeness.specs.Whole.{
@@ -13,7 +13,7 @@ ghost use Rattle.wholeness.specs.Whole.{
   companyGood,
   messageGood,
   apart,
-  isBlank,
+  restBlank,
   listGood,
   waitsWell,
   waitersGood,
@@ -174,42 +174,8 @@ pub fn places_apart(l: Messages) -> bool
     true
 }
 
-pub fn is_blank(m: Message) -> bool
-    ensures { λ r. ⌜ r ≡ isBlank m ⌝ }
-{
-    if m.other != 0 {
-        return false;
-    }
-    if m.priority != 0 {
-        return false;
-    }
-    if m.channel != 0 {
-        return false;
-    }
-    if m.length != 0 {
-        return false;
-    }
-    if m.place != 0 {
-        return false;
-    }
-    true
-}
-
-pub fn rest_blank(l: Messages) -> bool
-    ensures { λ r. ⌜ r ≡ every isBlank (drop (l .len) (l .items)) ⌝ }
-{
-    let mut i = l.len;
-    while i < 16 {
-        let m = l.items[i];
-        if !is_blank(m) {
-            return false;
-        }
-        i += 1;
-    }
-    true
-}
-
 pub fn list_good(n: u8, own: u8, l: Messages) -> bool
+    requires { ⌜ restBlank l ≡ true ⌝ }
     ensures { λ r. ⌜ r ≡ listGood n own l ⌝ }
 {
     if 16 < l.len {
@@ -218,10 +184,7 @@ pub fn list_good(n: u8, own: u8, l: Messages) -> bool
     if !messages_good(n, own, l) {
         return false;
     }
-    if !places_apart(l) {
-        return false;
-    }
-    rest_blank(l)
+    places_apart(l)
 }
 
 pub fn waits_well(live: Live, f: Flight, m: Message) -> bool
@@ -339,6 +302,7 @@ pub fn awaited_good(state: State, n: u8, own: u8, l: Messages, d: Dispatch) -> b
 
 // Both lists.
 pub fn lists_good(s: Station) -> bool
+    requires { ⌜ (restBlank (s .sends) ≡ true) × (restBlank (s .receives) ≡ true) ⌝ }
     ensures { λ r. ⌜ r ≡ listsGood s ⌝ }
 {
     if !list_good(s.n, s.own, s.sends) {
@@ -347,8 +311,9 @@ pub fn lists_good(s: Station) -> bool
     list_good(s.n, s.own, s.receives)
 }
 
-// Whether the station is one that the rules can come to.
+// Whether the station is one that the rules can come to. The slots behind its messages are blank by the way it is read.
 pub fn is_whole(s: Station) -> bool
+    requires { ⌜ (restBlank (s .sends) ≡ true) × (restBlank (s .receives) ≡ true) ⌝ }
     ensures { λ r. ⌜ r ≡ whole s ⌝ }
 {
     let turn = s.turn;

@@ -15,11 +15,11 @@ use Rattle.codec.specs.declared.ring.Ring.{Ring}
 use Rattle.codec.specs.declared.ring.RingRead.{RingRead}
 use Rattle.codec.proofs.Laws.Bits.{bits-below}
 use Rattle.codec.proofs.Laws.Ring.{read-zero, read-good, read-refused, few-members, length-addresses, members-filled, members-laid}
-use Rattle.wholeness.specs.Whole.{whole}
+use Rattle.wholeness.specs.Whole.{restBlank, whole}
 use Rattle.station.specs.declared.station.Station.{Station}
 use Rattle.records.specs.Layout.{recordLength, ringRoom}
 use Rattle.records.specs.Record.{Loaded, fileLength, fileOf, ringFrom, stationFrom, stationOf, fieldsGood, restsGood, goodRing, notWhole, readRecord}
-use Rattle.records.proofs.Laws.Rest.{whole-rests}
+use Rattle.records.proofs.Laws.Rest.{whole-rests, station-rests}
 
 abbrev pub wholeOf : RingRead → Station → Loaded
 wholeOf r st = record { ok = true; ring = r .ring; station = st }
@@ -231,6 +231,10 @@ module _ (s addresses : List ℕ) (n : ℕ) (read : (n ≡ goodRing s .n) × (ta
     good-enough =
         let h : length s ≡ recordLength = good .sized in
         (omega arith, good-few, good .good-rests)
+
+    -- and what asking whether it is whole requires
+    pub blank-enough : (st : Station) → st ≡ stationFrom s n (limit s) → (restBlank (st .sends) ≡ true) × (restBlank (st .receives) ≡ true)
+    blank-enough st from = rw from (station-rests s n (limit s) (good-enough .0) (good .good-rests))
 
     module _ (st : Station) (w : Bool) (from : st ≡ stationFrom s n (limit s)) (asked : w ≡ whole st) where
       station-is : st ≡ stationOf s

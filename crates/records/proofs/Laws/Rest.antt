@@ -6,22 +6,22 @@ use Prim.Native.Nat.{ℕ, zero, suc, _+_, _-_, _*_, _<_, _≤_, min}
 use native.Mathlib.Nat.{add-zero}
 use native.Mathlib.Numerals.{add-one}
 use native.Mathlib.Omega.{arith}
-use borrow.Author.Tests.{eq-eqb, eqb-true, leb-true}
-use lib.Dec.{eqb}
-use lib.ListN.{length, drop, getD, replicate, getD-replicate}
-use lib.Seq.{drop-cons}
+use borrow.Author.Tests.{eq-eqb, eqb-true, leb-true, leb-false}
+use lib.Dec.{eqb, leb}
+use lib.ListN.{length, drop, getD, replicate, getD-replicate, drop-of-length-le}
+use lib.Seq.{drop-cons, drop-at}
 use Rattle.codec.specs.Octets.{numberAt, firstNonzero}
 use Rattle.codec.proofs.Laws.Octets.{number-more}
 use Rattle.codec.proofs.Laws.Zeros.{zeros-more}
 use Rattle.parts.specs.Choose.{every}
 use Rattle.parts.specs.Messages.{blank}
 use Rattle.parts.specs.declared.list.Message.{Message}
-use Rattle.parts.proofs.Laws.Tests.{held, hold, each-first, each-rest}
-use Rattle.wholeness.specs.Whole.{isBlank, listGood, listsGood, whole}
+use Rattle.parts.proofs.Laws.Tests.{held, hold, each-none, each-same, each-first, each-rest}
+use Rattle.wholeness.specs.Whole.{isBlank, restBlank, listGood, listsGood, whole}
 use Rattle.records.specs.Layout.{sendsAt, receivesAt, recordLength}
 use Rattle.records.specs.Tables.{tab}
 use Rattle.records.specs.Fields.{messageAt, itemAt, itemsAt, messagesAt, countAt, firstItems, restGood}
-use Rattle.records.specs.Record.{stationOf, restsGood}
+use Rattle.records.specs.Record.{stationFrom, stationOf, restsGood}
 use Rattle.records.proofs.Laws.Tables.{length-tab, tab-get, tab-rest}
 
 -- ---- zeros make blanks
@@ -126,6 +126,33 @@ list-rest s at n own h e =
     (ap (λ (c : ℕ). firstNonzero s (at + 1 + c * 6) (at + 97 - (at + 1 + c * 6))) same
     ∙ blanks-passed s (at + 1) 16 (at + 97) (omega arith) h (16 - says) says (omega arith) (t .1 .1 .1 .0))
 
+-- ---- what follows a list's messages, as it is read
+
+blanks : (k n : ℕ) → every isBlank (drop k (replicate n blank)) ≡ true
+unfolding isBlank
+blanks zero n = each-same isBlank blank (hold _ (refl, (refl, (refl, (refl, (refl, tt)))))) n
+blanks (suc k) zero = each-none isBlank
+blanks (suc k) (suc n) = blanks k n
+
+rest-blank : (s : List ℕ) (at : ℕ) → at + 97 ≤ length s → restGood s at ≡ true → restBlank (messagesAt s at) ≡ true
+rest-blank s at h e = go (leb says 16) refl
+  where
+    says : ℕ
+    says = numberAt s at 1
+
+    go : (b : Bool) → leb says 16 ≡ b → every isBlank (drop says (itemsAt s (at + 1))) ≡ true
+    go true few =
+        let within : says ≤ 16 = leb-true _ _ few in
+        let same : min 16 says ≡ says = omega arith in
+        ap (λ (l : List Message). every isBlank (drop says l))
+        (sym (rest-items s at h e) ∙ ap (firstItems s (at + 1)) same)
+        ∙ ap (every isBlank) (drop-at (tab (itemAt s (at + 1)) says) (drop says (replicate 16 blank)) says (length-tab (itemAt s (at + 1)) says))
+        ∙ blanks says 16
+    go false many =
+        let past : 16 < says = leb-false says 16 many in
+        let long : length (itemsAt s (at + 1)) ≡ 16 = length-tab (itemAt s (at + 1)) 16 in
+        ap (every isBlank) (drop-of-length-le (itemsAt s (at + 1)) {i = says} (omega arith)) ∙ each-none isBlank
+
 -- ---- a whole record
 
 pub whole-rests : (s : List ℕ) → length s ≡ recordLength → whole (stationOf s) ≡ true → restsGood s ≡ true
@@ -142,3 +169,9 @@ module _ (s : List ℕ) (e : restsGood s ≡ true) where
   pub receives-rest : restGood s receivesAt ≡ true
   unfolding restsGood
   receives-rest = held _ e .1 .0
+
+-- what a station read from it has
+pub station-rests : (s : List ℕ) (n limit : ℕ) → recordLength ≤ length s → restsGood s ≡ true
+    → (restBlank (stationFrom s n limit .sends) ≡ true) × (restBlank (stationFrom s n limit .receives) ≡ true)
+station-rests s n limit h e =
+    (rest-blank s sendsAt (omega arith) (sends-rest s e), rest-blank s receivesAt (omega arith) (receives-rest s e))

@@ -30,6 +30,12 @@ unfolding allOf pick
 test-last true = refl
 test-last false = refl
 
+-- the last is known to pass
+pub test-known : (a b : Bool) → b ≡ true → allOf (a ∷ b ∷ []) ≡ a
+unfolding allOf pick
+test-known true b e = rw e
+test-known false b e = refl
+
 -- ---- every
 
 module _ {A : Type 0} (f : A → Bool) where

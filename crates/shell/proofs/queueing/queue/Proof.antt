@@ -3,7 +3,7 @@ use mathlib.Core.Path.{_≡_}
 use mathlib.Core.Bool.{false}
 use native.Mathlib.Omega.{arith}
 use lib.ListN.{length}
-use Rattle.records.proofs.Laws.Load.{Held, not-good, good-enough, not-whole, held}
+use Rattle.records.proofs.Laws.Load.{Held, not-good, good-enough, blank-enough, not-whole, held}
 use Rattle.shell.specs.Calls.{badStore}
 use Rattle.shell.proofs.Laws.Calls.{refused-9, refused-35, refused-own, done}
 use Rattle.shell.proofs.Laws.Handing.{store-bad, store-good, queue-answer, not-queued, all-queued}
@@ -43,7 +43,10 @@ station-from-requires c κs =
     good-enough (e .before .before .before .before .before .before .before .before .before .args .rec .now) (r .last .1 .0) (r .result) (r .ensures) (e .if2 .left)
 
 is-whole-requires : tie.Need-is-whole-requires
-is-whole-requires c κs = search needs
+is-whole-requires c κs =
+    let e = c .before .before in
+    let r = e .before .before .ring-into in
+    blank-enough (e .before .before .before .before .before .before .before .before .before .args .rec .now) (r .last .1 .0) (r .result) (r .ensures) (e .if2 .left) _ (c .station-from .ensures)
 
 same-length-2 : tie.Need-same-length-2
 same-length-2 c = search needs

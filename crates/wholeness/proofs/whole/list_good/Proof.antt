@@ -1,7 +1,7 @@
 -- `whole::list_good` meets its contract: at each return the tests that led there say which is the first that fails.
 use mathlib.Core.Path.{sym, _∙_}
 use borrow.Author.Tests.{lt-leb, le-leb, not-true, not-false}
-use Rattle.wholeness.proofs.Laws.Whole.{test-stops, test-passes, test-last}
+use Rattle.wholeness.proofs.Laws.Whole.{test-stops, test-passes, test-known}
 use Rattle.wholeness.specs.Whole.{listGood}
 use borrow.Author.Needs.{needs}
 use Rattle.wholeness.proofs.whole.list_good.Statement.{statement}
@@ -23,23 +23,9 @@ places-apart-requires c κs = search needs
 
 returns-3 : tie.Need-returns-3
 unfolding listGood
-returns-3 c = sym (test-passes _ _ (le-leb _ _ (c .before .before .before .before .if1 .left)) ∙ test-passes _ _ (sym (c .before .before .before .messages-good .ensures) ∙ not-false _ (c .before .before .if2 .left)) ∙ test-stops _ _ (sym (c .before .places-apart .ensures) ∙ not-true _ (c .if3 .taken)))
-
-rest-blank-requires : tie.Need-rest-blank-requires
-rest-blank-requires c κs = search needs
-
-returns-4 : tie.Need-returns-4
-unfolding listGood
-returns-4 c = c .rest-blank .ensures ∙ sym (test-passes _ _ (le-leb _ _ (c .before .before .before .before .before .if1 .left)) ∙ test-passes _ _ (sym (c .before .before .before .before .messages-good .ensures) ∙ not-false _ (c .before .before .before .if2 .left)) ∙ test-passes _ _ (sym (c .before .before .places-apart .ensures) ∙ not-false _ (c .before .if3 .left)) ∙ test-last _)
+returns-3 c = c .places-apart .ensures ∙ sym (test-passes _ _ (le-leb _ _ (c .before .before .before .if1 .left)) ∙ test-passes _ _ (sym (c .before .before .messages-good .ensures) ∙ not-false _ (c .before .if2 .left)) ∙ test-known _ _ (c .before .before .before .before .before .pre))
 
 pub list-good-spec : {M : Type 1} → statement M
 list-good-spec =
     tie.close
-    (tie.spec
-    returns
-    messages-good-requires
-    returns-2
-    places-apart-requires
-    returns-3
-    rest-blank-requires
-    returns-4)
+    (tie.spec returns messages-good-requires returns-2 places-apart-requires returns-3)
