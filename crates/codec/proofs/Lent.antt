@@ -24,7 +24,7 @@ use prog.Wp.{Heap, Env, Calls, Loops}
 use ghost.Atoms.{Atoms, sem}
 use contract.BorrowLft.{meet-⊑-right}
 use contract.Monad.{Fun, fact}
-use types.Kit.{Given, Item, Post, Seq, lands, runs, ‵, raw, _⊛_, mean, some, later, _$_, _∵_, !, qed, move, keep, drop, use1, use2, use3, split, split3, join, pick, rewrite, regoal, fsplit, fjoin, fpick, fpack, frame, await, updating, now as at-once, show, done}
+use types.Kit.{Given, Item, Post, Seq, lands, runs, ‵, raw, _⊛_, mean, some, later, _$_, _∵_, !, qed, move, keep, use1, use2, use3, split, split3, join, pick, rewrite, regoal, fsplit, fjoin, fpick, fpack, frame, await, updating, now as at-once, show, done}
 use types.Run.{Opds}
 use types.SemTy.{Body}
 use types.Tokens.{lft-new}

@@ -1,9 +1,8 @@
 -- `bits::address_at` meets its contract: at an octet's border 48 bits are the number of 6 octets.
 use borrow.Author.Needs.{needs}
-use mathlib.Core.Path.{_≡_, sym, ap, _∙_}
-use Prim.Native.Nat.{ℕ, _+_, _*_, _/_, _^_, _<_, _≤_}
+use mathlib.Core.Path.{_≡_, sym, _∙_}
+use Prim.Native.Nat.{_*_, _/_}
 use native.Mathlib.Omega.{arith}
-use lib.ListN.{length, getD}
 use Rattle.codec.specs.Octets.{Octets, numberAt}
 use Rattle.codec.specs.Bits.{bits}
 use Rattle.codec.proofs.Laws.Bits.{bits-octets, bits-below}

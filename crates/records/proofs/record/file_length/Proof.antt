@@ -1,6 +1,5 @@
 -- `record::file_length` meets its contract: N − 1 is of 6 bits.
 use mathlib.Core.Path.{_≡_, ap}
-use Prim.Native.Nat.{ℕ, _+_, _*_}
 use native.Mathlib.Omega.{arith}
 use borrow.Author.Needs.{needs}
 use Rattle.codec.specs.Ring.{others}
