@@ -9,19 +9,6 @@ pub fn bits(s: &[u8], at: usize, width: usize) -> u64
     requires { ⌜ (at + width ≤ length (now s) * 8) × (at + width < 2 ^ 64) × (width ≤ 64) ⌝ }
     ensures { λ r. ⌜ (r ≡ bits (now (s .entry)) at width) × (r < 2 ^ width) ⌝ }
 {
-    if at % 8 == 0 {
-        if width % 8 == 0 {
-            return crate::octets::get(s, at / 8, width / 8);
-        }
-    }
-    one_by_one(s, at, width)
-}
-
-// The same, a bit at a time.
-pub fn one_by_one(s: &[u8], at: usize, width: usize) -> u64
-    requires { ⌜ (at + width ≤ length (now s) * 8) × (at + width < 2 ^ 64) × (width ≤ 64) ⌝ }
-    ensures { λ r. ⌜ (r ≡ bits (now (s .entry)) at width) × (r < 2 ^ width) ⌝ }
-{
     let mut value: u64 = 0;
     let mut i = 0;
     while i < width {
