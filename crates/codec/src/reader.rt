@@ -1,8 +1,9 @@
 // A small reader: the lent ring file, and a bit position in it.
 ghost use mathlib.Core.Path.{_≡_};
-ghost use Prim.Native.Nat.{_+_, _*_, _≤_, _<_, _^_};
+ghost use Prim.Native.Nat.{_+_, _*_, _%_, _≤_, _<_, _^_};
 ghost use lib.ListN.{length};
 ghost use Rattle.codec.specs.Bits.{bits};
+use crate::bits::address_at;
 use crate::bits::bits;
 
 pub struct Reader<'a> {
@@ -27,13 +28,23 @@ impl<'a> Reader<'a> {
         self.at = self.at + width;
         value
     }
+
+    // The next address, whose 48 bits begin with an octet.
+    pub fn take_address<'s>(&'s mut self) -> u64
+        requires { ⌜ (now self .at % 8 ≡ 0) × (now self .at + 48 ≤ length (now (now self .file)) * 8) × (now self .at + 48 < 2 ^ 64) ⌝ }
+        ensures { λ v. ⌜ (v ≡ bits (now (now (self .entry) .file)) (now (self .entry) .at) 48) × (v < 2 ^ 48) × (now (self .exit) .file ≡ now (self .entry) .file) × (now (self .exit) .at ≡ now (self .entry) .at + 48) ⌝ }
+    {
+        let value = address_at(self.file, self.at);
+        self.at = self.at + 48;
+        value
+    }
 }
 
-// The bits from a position on, by a reader that is put there.
-pub fn bits_from(file: &[u8], at: usize, width: usize) -> u64
-    requires { ⌜ (at + width ≤ length (now file) * 8) × (at + width < 2 ^ 64) × (width ≤ 64) ⌝ }
-    ensures { λ r. ⌜ (r ≡ bits (now (file .entry)) at width) × (r < 2 ^ width) ⌝ }
+// The address from a position on, by a reader that is put there.
+pub fn address_from(file: &[u8], at: usize) -> u64
+    requires { ⌜ (at % 8 ≡ 0) × (at + 48 ≤ length (now file) * 8) × (at + 48 < 2 ^ 64) ⌝ }
+    ensures { λ r. ⌜ (r ≡ bits (now (file .entry)) at 48) × (r < 2 ^ 48) ⌝ }
 {
     let mut r = Reader { file, at };
-    r.take(width)
+    r.take_address()
 }

@@ -7,7 +7,7 @@ ghost use lib.ListN.{length, take, drop, getD};
 ghost use Rattle.codec.specs.Octets.{laid};
 ghost use Rattle.codec.specs.Ring.{badAddress, position, isMember, headRefusal, addressesOf, addressRefusal, addressesRefusal, count, ringRefusal, readRing, noRing};
 use crate::head::head_of;
-use crate::reader::bits_from;
+use crate::reader::address_from;
 
 // A ring by value: how many members, the retry limit, the members' addresses in ring order and then zeros.
 pub struct Ring {
@@ -152,7 +152,7 @@ pub fn addresses_into(file: &[u8], n: usize, addresses: &mut [u64])
 {
     let mut i = 0;
     while i < n {
-        addresses[i] = bits_from(file, 16 + i * 48, 48);
+        addresses[i] = address_from(file, 16 + i * 48);
         i += 1;
     }
 }
@@ -166,7 +166,7 @@ pub fn read_into(file: &[u8], addresses: &mut [u64]) -> u32
     if early != 0 {
         return early;
     }
-    let n = bits_from(file, 4, 6) as usize + 1;
+    let n = head_of(file).others as usize + 1;
     addresses_into(file, n, addresses);
     addresses_refusal(members(addresses, n))
 }
@@ -193,8 +193,9 @@ pub fn read(file: &[u8]) -> RingRead
     if number != 0 {
         return no_ring(number);
     }
-    let n = bits_from(file, 4, 6) as usize + 1;
-    let limit = bits_from(file, 10, 4) as u8;
+    let head = head_of(file);
+    let n = head.others as usize + 1;
+    let limit = head.limit as u8;
     RingRead {
         number: 0,
         ring: Ring {

@@ -39,6 +39,7 @@ use crate::live::put_live;
 use crate::turn::put_turn;
 use crate::turn::turn_at;
 use crate::turn::turn_good;
+use codec::head::head_of;
 use codec::octets::clear;
 use codec::octets::copy;
 use codec::octets::get;
@@ -53,7 +54,7 @@ pub fn file_length(s: &[u8]) -> usize
     requires { ⌜ recordLength ≤ length (now s) ⌝ }
     ensures { λ r. ⌜ (r ≡ fileLength (now (s .entry))) × (r ≤ ringRoom) ⌝ }
 {
-    let more = codec::reader::bits_from(s, 4, 6) as usize;
+    let more = head_of(s).others as usize;
     2 + 6 * (more + 1)
 }
 

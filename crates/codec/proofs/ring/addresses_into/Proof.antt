@@ -20,14 +20,14 @@ loop-holds : tie.Need-loop-holds Inv-loop μ-loop
 unfolding addressesOf
 loop-holds c = (omega arith, refl, sym (laid-none (c .before .before .args .addresses .now) 0))
 
-mul-bits-from : tie.Need-mul-bits-from Inv-loop μ-loop
-mul-bits-from c = omega arith
+mul-address-from : tie.Need-mul-address-from Inv-loop μ-loop
+mul-address-from c = omega arith
 
-add-bits-from : tie.Need-add-bits-from Inv-loop μ-loop
-add-bits-from c = omega arith
+add-address-from : tie.Need-add-address-from Inv-loop μ-loop
+add-address-from c = omega arith
 
-bits-from-requires : tie.Need-bits-from-requires Inv-loop μ-loop
-bits-from-requires c κs = omega arith
+address-from-requires : tie.Need-address-from-requires Inv-loop μ-loop
+address-from-requires c κs = omega arith
 
 mul-addresses : tie.Need-mul-addresses Inv-loop μ-loop
 mul-addresses c = omega arith
@@ -47,7 +47,7 @@ loop-again c =
     let a = c .before .before .before .before .before .args in (
       omega arith,
       simp length-set (l .inv .1),
-      ap (set (l .addresses) (l .i)) (c .bits-from .ensures .0)
+      ap (set (l .addresses) (l .i)) (c .address-from .ensures .0)
           ∙ addresses-more-laid (a .file .now) (a .addresses .now) (l .addresses) (l .i) (omega arith) (l .inv .2),
     )
 
@@ -67,9 +67,9 @@ addresses-into-spec =
     Inv-loop
     μ-loop
     loop-holds
-    mul-bits-from
-    add-bits-from
-    bits-from-requires
+    mul-address-from
+    add-address-from
+    address-from-requires
     mul-addresses
     slice-write-addresses
     add-i

@@ -5,13 +5,14 @@ use native.Mathlib.Omega.{arith}
 use borrow.Author.Needs.{needs}
 use Rattle.codec.specs.Octets.{laid}
 use Rattle.codec.specs.Ring.{others, count, addressesOf, addressesRefusal}
+use Rattle.codec.specs.declared.head.HeadBits.{HeadBits}
 use Rattle.codec.proofs.Laws.Bits.{bits-below}
 use Rattle.codec.proofs.Laws.Ring.{HeadGood, head-good, refused-early, read-steps}
 use Rattle.codec.proofs.ring.read_into.Statement.{statement}
 use Rattle.codec.proofs.ring.read_into.Tie as tie
 use Rattle.codec.proofs.ring.read_into.Reads as reads
 use Rattle.codec.proofs.ring.read_into.Lts as lts
-use Rattle.codec.proofs.reader.bits_from.Reads as bits-from-reads
+use Rattle.codec.proofs.head.head_of.Reads as head-of-reads
 use Rattle.codec.proofs.ring.addresses_into.Reads as addresses-into-reads
 use Rattle.codec.proofs.ring.addresses_refusal.Reads as addresses-refusal-reads
 use Rattle.codec.proofs.ring.head_refusal.Reads as head-refusal-reads
@@ -28,16 +29,21 @@ returns c =
 good : (c : tie.Else1) → HeadGood (c .before .before .before .before .args .file .now)
 good c = head-good _ (sym (c .before .head-refusal .ensures) ∙ c .if1 .left)
 
-bits-from-requires : tie.Need-bits-from-requires
-bits-from-requires c κs = omega (arith, good c)
+the-others : (c : tie.After-head-of) → c .head-of .result .others ≡ others (c .before .before .before .before .before .args .file .now)
+the-others c = ap (λ (r : HeadBits). r .others) (c .head-of .ensures)
+
+head-of-requires : tie.Need-head-of-requires
+head-of-requires c κs = omega (arith, good c)
 
 add-n : tie.Need-add-n
-add-n c = search needs
+add-n c =
+    let file = c .before .before .before .before .before .args .file .now in
+    record { fits = omega (arith, the-others c, bits-below file 4 6) }
 
 addresses-into-requires : tie.Need-addresses-into-requires
 addresses-into-requires c κs =
     let file = c .before .before .before .before .before .before .args .file .now in
-    let e : c .before .bits-from .result ≡ others file = c .before .bits-from .ensures .0 in
+    let e : c .before .head-of .result .others ≡ others file = the-others (c .before) in
     omega (arith, good (c .before .before), e, bits-below file 4 6)
 
 members-requires : tie.Need-members-requires
@@ -56,8 +62,8 @@ returns-2 c =
     let b = a .before .before in
     let file = b .before .before .before .before .before .args .file .now in
     let l = b .before .before .before .before .before .args .addresses .now in
-    let n : b .bits-from .result + 1 ≡ count file = ap (λ (k : ℕ). k + 1) (b .bits-from .ensures .0) in (
-      read-steps file l (b .bits-from .result + 1) (c .addresses-refusal .result) (a .addresses-into .last .1 .1 .0)
+    let n : b .head-of .result .others + 1 ≡ count file = ap (λ (k : ℕ). k + 1) (the-others b) in (
+      read-steps file l (b .head-of .result .others + 1) (c .addresses-refusal .result) (a .addresses-into .last .1 .1 .0)
           (sym (b .before .before .head-refusal .ensures) ∙ b .before .if1 .left)
           n
           (a .addresses-into .ensures)
@@ -71,7 +77,7 @@ read-into-spec =
     (tie.spec
     head-refusal-requires
     returns
-    bits-from-requires
+    head-of-requires
     add-n
     addresses-into-requires
     members-requires
