@@ -166,7 +166,7 @@ pub fn read_into(file: &[u8], addresses: &mut [u64]) -> u32
     if early != 0 {
         return early;
     }
-    let n = head_of(file).others as usize + 1;
+    let n = (file.len() - 2) / 6;
     addresses_into(file, n, addresses);
     addresses_refusal(members(addresses, n))
 }

@@ -58,21 +58,20 @@ pub fn file_length(s: &[u8]) -> usize
     2 + 6 * (more + 1)
 }
 
-// Whether only zeros follow the ring file.
-pub fn pad_good(s: &[u8]) -> bool
-    requires { ⌜ recordLength ≤ length (now s) ⌝ }
+// Whether only zeros follow the ring file, which has `n` octets.
+pub fn pad_good(s: &[u8], n: usize) -> bool
+    requires { ⌜ (recordLength ≤ length (now s)) × (n ≡ fileLength (now s)) ⌝ }
     ensures { λ r. ⌜ r ≡ padGood (now (s .entry)) ⌝ }
 {
-    let n = file_length(s);
     nonzero(s, n, RING_ROOM) == RING_ROOM
 }
 
 // Whether every octet is one that writing the station gives.
-pub fn fields_good(s: &[u8]) -> bool
-    requires { ⌜ recordLength ≤ length (now s) ⌝ }
+pub fn fields_good(s: &[u8], n: usize) -> bool
+    requires { ⌜ (recordLength ≤ length (now s)) × (n ≡ fileLength (now s)) ⌝ }
     ensures { λ r. ⌜ r ≡ fieldsGood (now (s .entry)) ⌝ }
 {
-    if !pad_good(s) {
+    if !pad_good(s, n) {
         return false;
     }
     if !turn_good(s) {
@@ -105,7 +104,7 @@ pub fn ring_into(s: &[u8], addresses: &mut [u64]) -> usize
     if codec::ring::read_into(&s[..end], addresses) != 0 {
         return 0;
     }
-    if !fields_good(s) {
+    if !fields_good(s, end) {
         return 0;
     }
     if !rests_good(s) {

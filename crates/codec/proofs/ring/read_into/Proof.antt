@@ -1,18 +1,17 @@
 -- `ring::read_into` meets its contract: a head that passes says what the calls require, and the refusals are those of the one order.
 use mathlib.Core.Path.{_≡_, sym, ap, _∙_}
-use Prim.Native.Nat.{ℕ, _+_}
+use Prim.Native.Nat.{ℕ, _-_, _/_}
 use native.Mathlib.Omega.{arith}
 use borrow.Author.Needs.{needs}
+use lib.ListN.{length}
 use Rattle.codec.specs.Octets.{laid}
-use Rattle.codec.specs.Ring.{others, count, addressesOf, addressesRefusal}
-use Rattle.codec.specs.declared.head.HeadBits.{HeadBits}
+use Rattle.codec.specs.Ring.{count, addressesOf, addressesRefusal}
 use Rattle.codec.proofs.Laws.Bits.{bits-below}
 use Rattle.codec.proofs.Laws.Ring.{HeadGood, head-good, refused-early, read-steps}
 use Rattle.codec.proofs.ring.read_into.Statement.{statement}
 use Rattle.codec.proofs.ring.read_into.Tie as tie
 use Rattle.codec.proofs.ring.read_into.Reads as reads
 use Rattle.codec.proofs.ring.read_into.Lts as lts
-use Rattle.codec.proofs.head.head_of.Reads as head-of-reads
 use Rattle.codec.proofs.ring.addresses_into.Reads as addresses-into-reads
 use Rattle.codec.proofs.ring.addresses_refusal.Reads as addresses-refusal-reads
 use Rattle.codec.proofs.ring.head_refusal.Reads as head-refusal-reads
@@ -29,22 +28,12 @@ returns c =
 good : (c : tie.Else1) → HeadGood (c .before .before .before .before .args .file .now)
 good c = head-good _ (sym (c .before .head-refusal .ensures) ∙ c .if1 .left)
 
-the-others : (c : tie.After-head-of) → c .head-of .result .others ≡ others (c .before .before .before .before .before .args .file .now)
-the-others c = ap (λ (r : HeadBits). r .others) (c .head-of .ensures)
-
-head-of-requires : tie.Need-head-of-requires
-head-of-requires c κs = omega (arith, good c)
-
-add-n : tie.Need-add-n
-add-n c =
-    let file = c .before .before .before .before .before .args .file .now in
-    record { fits = omega (arith, the-others c, bits-below file 4 6) }
+sub-n : tie.Need-sub-n
+sub-n c = omega (arith, good c)
 
 addresses-into-requires : tie.Need-addresses-into-requires
 addresses-into-requires c κs =
-    let file = c .before .before .before .before .before .before .args .file .now in
-    let e : c .before .head-of .result .others ≡ others file = the-others (c .before) in
-    omega (arith, good (c .before .before), e, bits-below file 4 6)
+    omega (arith, good (c .before), bits-below (c .before .before .before .before .before .args .file .now) 4 6)
 
 members-requires : tie.Need-members-requires
 members-requires c κs = search needs
@@ -57,17 +46,16 @@ same-length c = search needs
 
 returns-2 : tie.Need-returns-2
 returns-2 c =
-    let m = c .before in
     let a = c .before .before .before .before .before in
-    let b = a .before .before in
-    let file = b .before .before .before .before .before .args .file .now in
-    let l = b .before .before .before .before .before .args .addresses .now in
-    let n : b .head-of .result .others + 1 ≡ count file = ap (λ (k : ℕ). k + 1) (the-others b) in (
-      read-steps file l (b .head-of .result .others + 1) (c .addresses-refusal .result) (a .addresses-into .last .1 .1 .0)
-          (sym (b .before .before .head-refusal .ensures) ∙ b .before .if1 .left)
+    let e = a .before .before in
+    let file = e .before .before .before .before .args .file .now in
+    let l = e .before .before .before .before .args .addresses .now in
+    let n : (length file - 2) / 6 ≡ count file = omega (arith, good e) in (
+      read-steps file l ((length file - 2) / 6) (c .addresses-refusal .result) (a .addresses-into .last .1 .1 .0)
+          (sym (e .before .head-refusal .ensures) ∙ e .if1 .left)
           n
           (a .addresses-into .ensures)
-          (c .addresses-refusal .ensures ∙ ap addressesRefusal (m .members .ensures)),
+          (c .addresses-refusal .ensures ∙ ap addressesRefusal (c .before .members .ensures)),
       λ z. a .addresses-into .ensures ∙ ap (λ (k : ℕ). laid l 0 (addressesOf file k)) n,
     )
 
@@ -77,8 +65,7 @@ read-into-spec =
     (tie.spec
     head-refusal-requires
     returns
-    head-of-requires
-    add-n
+    sub-n
     addresses-into-requires
     members-requires
     addresses-refusal-requires
