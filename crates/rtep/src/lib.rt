@@ -2,16 +2,17 @@
 ghost use mathlib.Core.Path.{_≡_};
 ghost use mathlib.Core.List.{List, [], _∷_, _++_};
 ghost use Prim.Native.Nat.{_+_, _≤_, _<_};
-ghost use lib.ListN.{length, take};
+ghost use lib.ListN.{length};
 ghost use Rattle.codec.specs.Octets.{laid};
 ghost use Rattle.packet_codec.specs.Packet.{packetOf, readPacket, readNumber};
 ghost use Rattle.rtep.specs.declared.Made.the-variants.{Nothing, Packet as Of};
-ghost use Rattle.rtep.specs.Told.{toldRing, RingTold, valuesOf, shortValues, headValues, readTold, shortMade, headMade, madeOf, madeRefusal, WriteTold};
-use codec::ring::Ring;
+ghost use Rattle.rtep.specs.Told.{RingTold, valuesOf, shortValues, headValues, readTold, shortMade, headMade, madeOf, madeRefusal, WriteTold};
+use codec::head::head_of;
+use codec::ring::members;
+use codec::ring::read_into;
 use packet_codec::packet::Head;
 use packet_codec::packet::Packet;
 use packet_codec::packet::Short;
-use packet_codec::reading::head_of;
 use packet_codec::reading::refusal_of;
 use packet_codec::reading::short_of;
 use packet_codec::writing::write_packet;
@@ -24,30 +25,26 @@ pub enum Made {
     Packet(Packet),
 }
 
-// What is told, with the addresses of a ring's members from the third number on.
-pub fn addresses_told(told: [u64; 66], addresses: [u64; 64], n: usize) -> [u64; 66]
-    requires { ⌜ n ≤ 64 ⌝ }
-    ensures { λ r. ⌜ r ≡ laid told 2 (take n addresses) ⌝ }
+// Tells the addresses of a ring's members, from the third number on.
+pub fn tell_addresses(told: &mut [u64], members: &[u64])
+    requires { ⌜ 2 + length (now members) ≤ length (now told) ⌝ }
+    ensures { λ _. ⌜ now (told .exit) ≡ laid (now (told .entry)) 2 (now (members .entry)) ⌝ }
 {
-    let mut next = told;
     let mut i = 0;
-    while i < n {
-        next[2 + i] = addresses[i];
+    while i < members.len() {
+        told[2 + i] = members[i];
         i += 1;
     }
-    next
 }
 
-// What is told, with a ring's N, R, and addresses in ring order. Numbers beyond stay.
-pub fn ring_told(told: [u64; 66], ring: Ring) -> [u64; 66]
-    requires { ⌜ ring .n ≤ 64 ⌝ }
-    ensures { λ r. ⌜ r ≡ toldRing told ring ⌝ }
+// Tells a ring's N, R, and addresses in ring order. Numbers beyond stay.
+pub fn tell_ring(told: &mut [u64], limit: u64, members: &[u64])
+    requires { ⌜ (length (now members) ≤ 64) × (66 ≤ length (now told)) ⌝ }
+    ensures { λ _. ⌜ now (told .exit) ≡ laid (now (told .entry)) 0 (length (now (members .entry)) ∷ limit ∷ now (members .entry)) ⌝ }
 {
-    let addresses = ring.addresses;
-    let mut next = told;
-    next[0] = ring.n as u64;
-    next[1] = ring.limit as u64;
-    addresses_told(next, addresses, ring.n)
+    told[0] = members.len() as u64;
+    told[1] = limit;
+    tell_addresses(told, members);
 }
 
 // Reads a ring file, and tells its ring.
@@ -55,14 +52,14 @@ pub fn ring_told(told: [u64; 66], ring: Ring) -> [u64; 66]
 pub extern "C" fn rtep_ring(file: &[u8], told: &mut [u64; 66]) -> u32
     ensures { λ r. ⌜ RingTold (now (file .entry)) (now (told .entry)) r (now (told .exit)) ⌝ }
 {
-    let read = codec::ring::read(file);
-    let number = read.number;
+    let mut addresses = [0u64; 64];
+    let number = read_into(file, &mut addresses);
     if number != 0 {
         return number;
     }
-    let ring = read.ring;
-    let old = *told;
-    *told = ring_told(old, ring);
+    let head = head_of(file);
+    let n = head.others as usize + 1;
+    tell_ring(told, head.limit, members(&addresses, n));
     0
 }
 
@@ -78,7 +75,7 @@ pub fn values_in(s: &[u8]) -> [u64; 8]
     if identifier == 2 {
         return short_values(2, short_of(s));
     }
-    head_values(head_of(s))
+    head_values(packet_codec::reading::head_of(s))
 }
 
 fn short_values(identifier: u64, p: Short) -> [u64; 8]
