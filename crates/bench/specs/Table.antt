@@ -10,6 +10,7 @@ use Rattle.parts.specs.Frames.{failingOf}
 use Rattle.parts.specs.declared.frame.Dispatch.{Dispatch}
 use Rattle.parts.specs.declared.frame.Dispatch.the-variants.{Nothing, Sent}
 use Rattle.parts.specs.declared.frame.Frame.the-variants.{Transmit}
+use Rattle.parts.specs.declared.request.Request.{Request}
 use Rattle.station.specs.Queue.{queueRule}
 use Rattle.station.specs.declared.station.Answer.{Answer}
 use Rattle.station.specs.declared.station.Station.{Station}
@@ -89,5 +90,5 @@ abbrev pub answeredAt : List Station → ℕ → Answer → QueuedIn
 answeredAt ss p a = record { stations = set ss p (a .station); number = a .number }
 
 -- a queue call of the station at the position `from`
-abbrev pub queuedIn : List Station → ℕ → ℕ → ℕ → ℕ → ℕ → QueuedIn
-queuedIn ss from to priority channel length = answeredAt ss from (queueRule (getD ss from nobody) to priority channel length)
+abbrev pub queuedIn : List Station → ℕ → Request → QueuedIn
+queuedIn ss from q = answeredAt ss from (queueRule (getD ss from nobody) q)

@@ -2,7 +2,7 @@
 ghost use mathlib.Core.Path.{_≡_};
 ghost use mathlib.Core.Bool.{true};
 ghost use Prim.Native.Nat.{_+_, _*_, _-_, _<_, _≤_};
-ghost use lib.ListN.{length, length as count, getD, set};
+ghost use lib.ListN.{length, getD, set};
 ghost use Rattle.codec.specs.Octets.{laid};
 ghost use Rattle.parts.specs.Live.{seats};
 ghost use Rattle.parts.specs.Frames.{failingOf};
@@ -17,6 +17,7 @@ ghost use Rattle.bench.specs.Table.{staysAt, touchedIn, handingOf, goesO
 use crate::ring::Wire;
 use parts::frame::Dispatch;
 use parts::frame::Frame;
+use parts::request::Request;
 use station::rules::light::Light;
 use station::station::Station;
 use station::station::Turn;
@@ -253,39 +254,25 @@ pub fn run_in(t: [Station; 64], out: &mut [u8], g: Going) -> Stepped
     }
 }
 
-// The station at `from` is handed a message of `length` octets.
-pub fn queue_at(
-    table: &mut [Station],
-    from: usize,
-    to: usize,
-    priority: usize,
-    channel: usize,
-    length: usize,
-) -> u32
-    requires { ⌜ from < count (now table) ⌝ }
-    ensures { λ r. ⌜ (r ≡ queueRule (getD (now (table .entry)) from nobody) to priority channel length .number)
-        × (now (table .exit) ≡ set (now (table .entry)) from (queueRule (getD (now (table .entry)) from nobody) to priority channel length .station)) ⌝ }
+// The station at `from` is handed a message.
+pub fn queue_at(table: &mut [Station], from: usize, q: Request) -> u32
+    requires { ⌜ from < length (now table) ⌝ }
+    ensures { λ r. ⌜ (r ≡ queueRule (getD (now (table .entry)) from nobody) q .number)
+        × (now (table .exit) ≡ set (now (table .entry)) from (queueRule (getD (now (table .entry)) from nobody) q .station)) ⌝ }
 {
     let s = table[from];
-    let d = s.queue(to, priority, channel, length);
+    let d = s.queue(q);
     table[from] = d.station;
     d.number
 }
 
 // The owner of the table lends it for a queue call.
-pub fn queue_in(
-    t: [Station; 64],
-    from: usize,
-    to: usize,
-    priority: usize,
-    channel: usize,
-    length: usize,
-) -> QueuedIn
+pub fn queue_in(t: [Station; 64], from: usize, q: Request) -> QueuedIn
     requires { ⌜ from < 64 ⌝ }
-    ensures { λ r. ⌜ r ≡ queuedIn t from to priority channel length ⌝ }
+    ensures { λ r. ⌜ r ≡ queuedIn t from q ⌝ }
 {
     let mut table = t;
-    let number = queue_at(&mut table, from, to, priority, channel, length);
+    let number = queue_at(&mut table, from, q);
     QueuedIn {
         stations: table,
         number,

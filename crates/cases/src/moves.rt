@@ -16,7 +16,8 @@ fn row(s: Station) {
         s.frame(ready::token(12, 5, 0, 0), 0, 1).number as u64,
     );
     show::field(b", timer ", s.timer().number as u64);
-    show::field(b", queue ", s.queue(0, 5, 0, 10).number as u64);
+    let q = ready::request(0, 5, 0, 10);
+    show::field(b", queue ", s.queue(q).number as u64);
     show::field(b", take ", s.take(0, 10).number as u64);
     show::end();
 }

@@ -1,6 +1,7 @@
 // Stations made ready for a case by the calls themselves, and frames for them to hear. Rings have four members and R = 1.
 use parts::frame::Frame;
 use parts::frame::Whom;
+use parts::request::Request;
 use station::station::Station;
 
 pub fn idle(own: u8) -> Station {
@@ -22,9 +23,18 @@ pub fn rung(s: Station) -> Station {
     a.station
 }
 
+pub fn request(to: usize, priority: usize, channel: usize, length: usize) -> Request {
+    Request {
+        to,
+        priority,
+        channel,
+        length,
+    }
+}
+
 // A message more, of 10 octets on channel 0.
 pub fn with(s: Station, to: usize, priority: usize) -> Station {
-    let a = s.queue(to, priority, 0, 10);
+    let a = s.queue(request(to, priority, 0, 10));
     a.station
 }
 

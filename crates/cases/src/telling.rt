@@ -235,7 +235,7 @@ pub fn queue(words: &[u8], s: Station, to: usize, priority: usize, channel: usiz
     show::field(b" priority ", priority as u64);
     show::field(b" channel ", channel as u64);
     show::field(b" length ", length as u64);
-    write_brief(s.queue(to, priority, channel, length));
+    write_brief(s.queue(crate::ready::request(to, priority, channel, length)));
 }
 
 pub fn take(words: &[u8], s: Station, channel: usize, room: usize) {

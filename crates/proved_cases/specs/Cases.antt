@@ -16,7 +16,7 @@ use Rattle.bench.specs.Calls.{queue}
 use Rattle.bench.specs.Runs.{queued, stepping}
 use Rattle.bench.specs.Text.{lineFeed}
 use Rattle.script.specs.Script.{output}
-use Rattle.waiting.specs.Waiting.{spotFor, before, shorts, octetsOnWire, atQueue}
+use Rattle.waiting.specs.Waiting.{spotFor, before, shorts, octetsOnWire, atQueue, itsRequest, foreignRequest}
 
 pub record Case : Type 0 where
   pub given : List ℕ
@@ -63,8 +63,8 @@ bench script = output (lines script)
 -- the short frames and the octets before a message's own frame, in the run that reaches the bound on a ring of n
 waits : ℕ → List ℕ
 waits n =
-    let b = atQueue n (queued (n - 1) 1 5 0 1492 ∷ []) in
-    let rows = before (spotFor b 0) (queue b 0 1 9 0 0 .bench) (stepping (2 * n + 3)) in
+    let b = atQueue n (queued (n - 1) foreignRequest ∷ []) in
+    let rows = before (spotFor b 0) (queue b 0 itsRequest .bench) (stepping (2 * n + 3)) in
     shorts rows ∷ octetsOnWire rows ∷ []
 
 unfoldable pub cases : List Case

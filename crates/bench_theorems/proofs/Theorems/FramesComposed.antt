@@ -46,8 +46,8 @@ frames-length b q [] = refl
 frames-length b q (stepped ∷ es) =
     length-append (rowsOn (step b .wire)) (frames (afterEvent b stepped) es)
     ∙ omega (arith, one-composed b q, frames-length (afterEvent b stepped) (quiet-event b q stepped) es)
-frames-length b q (queued from to priority channel len ∷ es) =
-    frames-length (afterEvent b (queued from to priority channel len)) (quiet-event b q (queued from to priority channel len)) es
+frames-length b q (queued from r ∷ es) =
+    frames-length (afterEvent b (queued from r)) (quiet-event b q (queued from r)) es
 
 pub frames-composed : (n : ℕ) → 2 ≤ n → n ≤ 64 → (es : List Event) → length (frames (ringOf n) es) ≡ stepsIn es
 frames-composed n two most es = frames-length (ringOf n) (quiet-start n two most) es

@@ -5,7 +5,7 @@ use mathlib.Core.List.{List, [], _∷_}
 use Prim.Native.Nat.{ℕ, _<_}
 use native.Mathlib.Omega.{arith}
 use lib.Dec.{leb, ltb, eqb}
-use borrow.Author.Tests.{ltb-false, eqb-true}
+use borrow.Author.Tests.{eqb-true}
 use Rattle.codec.specs.Order.{firstOf}
 use Rattle.parts.specs.Choose.{pick, every}
 use Rattle.parts.specs.Messages.{all, pushed}
@@ -20,11 +20,11 @@ use Rattle.station.specs.Heard.{acknowledged, landed, acknowledge, strikeOther,
 use Rattle.station.specs.Timer.{unanswered, afterStrike, silence, onTimer, timerRule}
 use Rattle.plain_rules.specs.Resend.{tokenAgain, renamed, resend}
 use Rattle.station.specs.Queue.{queueNumber, newMessage, accepted, queueRule}
-use Rattle.plain_rules.specs.Refusals.{queueRefusal}
 use Rattle.station.specs.Take.{taking, takeRule}
 use Rattle.parts.specs.declared.list.Message.{Message}
 use Rattle.parts.specs.declared.list.Messages.{Messages}
 use Rattle.parts.specs.declared.list.Which.the-variants.{AnyWaiting}
+use Rattle.parts.specs.declared.request.Request.{Request}
 use Rattle.parts.specs.declared.frame.Whom.{Whom}
 use Rattle.parts.specs.declared.frame.Whom.the-variants.{Nobody, Member}
 use Rattle.parts.specs.declared.frame.Frame.{Frame}
@@ -44,6 +44,7 @@ use Rattle.station.specs.declared.station.Handled.the-variants.{Last}
 use Rattle.station.specs.declared.station.Station.{Station}
 use Rattle.station.specs.declared.station.Answer.{Answer}
 use Rattle.parts.proofs.Laws.Tests.{each-none}
+use Rattle.plain_rules.proofs.Laws.Queue.{queue-good}
 use Rattle.station_theorems.proofs.Laws.Small.{Small, SmallFrame, SmallDispatch, SmallHandled, SmallBest, SmallList, pick-keeps, pick-keeps-if, split-small, push-small, best-small, add-small, next-small, start-small, reply-small, own-small, send-small}
 
 module _ (n limit : ℕ) where
@@ -211,25 +212,12 @@ module _ (n limit : ℕ) where
       (sending-small s _ _ h (h .handled) (start-small _ (head-small s h) 0 (omega arith) Nobody))
       (quiet-small s Idle h))
 
-  -- an accepted priority is at most 255
-  priority-low : (n own : ℕ) (live : Bool) (len to priority channel size : ℕ) → queueRefusal n own live len to priority channel size ≡ 0 → priority < 256
-  unfolding queueRefusal
-  priority-low n own live len to priority channel size e = go (eqb priority 0) (ltb 255 priority) refl e
-    where
-      rest : List (Bool × ℕ)
-      rest = (leb n to, 15) ∷ (eqb to own, 15) ∷ (not live, 16) ∷ (ltb 7 channel, 17) ∷ (ltb 1492 size, 18) ∷ (leb 16 len, 19) ∷ []
-
-      go : (a b : Bool) → ltb 255 priority ≡ b → firstOf 0 ((a, 14) ∷ (b, 14) ∷ rest) ≡ 0 → priority < 256
-      go true b t q = absurd (omega (arith, q))
-      go false true t q = absurd (omega (arith, q))
-      go false false t q = omega (arith, ltb-false 255 priority t)
-
-  pub queue-small : (s : Station) (to priority channel length : ℕ) → Small n limit s → Small n limit (queueRule s to priority channel length .station)
+  pub queue-small : (s : Station) (q : Request) → Small n limit s → Small n limit (queueRule s q .station)
   unfolding queueRule accepted
-  queue-small s to priority channel length h =
+  queue-small s q h =
       moved-small s _ _ h
       (unless-small s _ _ h
-      (λ z. sends-small s h _ (push-small (s .sends) _ (h .sends) (priority-low (s .n) (s .own) (liveAt (s .live) to) (s .sends .len) to priority channel length z))))
+      (λ z. sends-small s h _ (push-small (s .sends) _ (h .sends) (omega (arith, queue-good (s .n) (s .own) (liveAt (s .live) (q .to)) (s .sends .len) q z .priority-fits)))))
 
   pub take-small : (s : Station) (channel room : ℕ) → Small n limit s → Small n limit (takeRule s channel room .station)
   unfolding takeRule taking

@@ -32,6 +32,7 @@ use Rattle.bench_theorems.proofs.Laws.Ringing.{first-wire, quiet-start}
 use Rattle.bench_theorems.proofs.Laws.Queueing.{quiet-queue, queue-wire}
 use Rattle.bench_theorems.proofs.Theorems.ReachedQuiet.{reached-n}
 use Rattle.bench_theorems.proofs.Theorems.NoneRefused.{queues}
+use Rattle.waiting.specs.Waiting.{itsRequest, foreignRequest}
 use Rattle.waiting.proofs.Laws.RunWaiting.{waiting}
 use Rattle.waiting.proofs.Laws.RunState.{Runs}
 use Rattle.waiting.proofs.Laws.RunQueue.{Unused, unused-waits, unused-place, Proper, queue-number, queue-here, queue-other}
@@ -57,7 +58,7 @@ starts s = go (eqb (moveOf (stateOf s) Start) runs) (eqb (s .own) 0)
 
 -- the foreign message has been queued
 abbrev pub ready : ℕ → Bench
-ready n = queue (ringOf n) (n - 1) 1 5 0 1492 .bench
+ready n = queue (ringOf n) (n - 1) foreignRequest .bench
 
 module _ (n : ℕ) (three : 3 ≤ n) (most : n ≤ 64) where
   two : 2 ≤ n
@@ -75,25 +76,25 @@ module _ (n : ℕ) (three : 3 ≤ n) (most : n ≤ 64) where
 
   -- ---- the foreign message
 
-  proper-foreign : Proper n (n - 1) 1 5 0 1492
+  proper-foreign : Proper n (n - 1) foreignRequest
   proper-foreign =
       record { member = omega arith; another = λ e. omega arith; some = omega arith; most = omega arith; channel-fits = omega arith; length-fits = omega arith }
 
   ready-quiet : Quiet (ready n)
-  ready-quiet = quiet-queue (ringOf n) (quiet-start n two most) (n - 1) 1 5 0 1492
+  ready-quiet = quiet-queue (ringOf n) (quiet-start n two most) (n - 1) foreignRequest
 
   ready-n : ready n .n ≡ n
   unfolding final afterEvent
-  ready-n = reached-n n two most (queued (n - 1) 1 5 0 1492 ∷ [])
+  ready-n = reached-n n two most (queued (n - 1) foreignRequest ∷ [])
 
   ready-last : waiting (stationAt (ready n) (n - 1)) ≡ foreign ∷ []
   ready-last =
-      queue-here (ringOf n) (quiet-start n two most) n (ring-n n two most) (n - 1) (omega arith) (unused-start (n - 1) (omega arith)) 1 5 0 1492 proper-foreign
+      queue-here (ringOf n) (quiet-start n two most) n (ring-n n two most) (n - 1) (omega arith) (unused-start (n - 1) (omega arith)) foreignRequest proper-foreign
 
   ready-unused : (p : ℕ) → p < n → (p ≡ n - 1 → ⊥) → Unused n p (stationAt (ready n) p)
   ready-unused p h o =
       subst (Unused n p)
-      (sym (queue-other (ringOf n) (quiet-start n two most) n (ring-n n two most) (n - 1) (omega arith) (unused-start (n - 1) (omega arith)) 1 5 0 1492 proper-foreign p o))
+      (sym (queue-other (ringOf n) (quiet-start n two most) n (ring-n n two most) (n - 1) (omega arith) (unused-start (n - 1) (omega arith)) foreignRequest proper-foreign p o))
       (unused-start p h)
 
   -- ---- the message
@@ -101,35 +102,35 @@ module _ (n : ℕ) (three : 3 ≤ n) (most : n ≤ 64) where
   first-unused : Unused n 0 (stationAt (ready n) 0)
   first-unused = ready-unused 0 (omega arith) (λ e. omega arith)
 
-  proper-its : Proper n 0 1 9 0 0
+  proper-its : Proper n 0 itsRequest
   proper-its =
       record { member = omega arith; another = λ e. omega arith; some = omega arith; most = omega arith; channel-fits = omega arith; length-fits = omega arith }
 
   pub its-place : lowestFree (all (stationAt (ready n) 0 .sends)) ≡ 0
   its-place = unused-place first-unused
 
-  pub its-accepted : queue (ready n) 0 1 9 0 0 .number ≡ 0
-  its-accepted = queue-number (ready n) ready-quiet n ready-n 0 (omega arith) first-unused 1 9 0 0 proper-its
+  pub its-accepted : queue (ready n) 0 itsRequest .number ≡ 0
+  its-accepted = queue-number (ready n) ready-quiet n ready-n 0 (omega arith) first-unused itsRequest proper-its
 
   -- the run begins
-  pub begins : Runs n (load n (foreign ∷ [])) 0 firstFrame (after n 0) (queue (ready n) 0 1 9 0 0 .bench)
+  pub begins : Runs n (load n (foreign ∷ [])) 0 firstFrame (after n 0) (queue (ready n) 0 itsRequest .bench)
   unfolding final afterEvent
   begins =
       record {
-        quiet = quiet-queue (ready n) ready-quiet 0 1 9 0 0;
-        same-n = reached-n n two most (queued (n - 1) 1 5 0 1492 ∷ queued 0 1 9 0 0 ∷ []);
-        wire = queue-wire (ready n) 0 1 9 0 0 ∙ queue-wire (ringOf n) (n - 1) 1 5 0 1492 ∙ first-wire n two most;
+        quiet = quiet-queue (ready n) ready-quiet 0 itsRequest;
+        same-n = reached-n n two most (queued (n - 1) foreignRequest ∷ queued 0 itsRequest ∷ []);
+        wire = queue-wire (ready n) 0 itsRequest ∙ queue-wire (ringOf n) (n - 1) foreignRequest ∙ first-wire n two most;
         loads = λ p h. go p h (eqb p 0) refl (eqb p (n - 1)) refl;
       }
     where
-      same : (p : ℕ) → (p ≡ 0 → ⊥) → stationAt (queue (ready n) 0 1 9 0 0 .bench) p ≡ stationAt (ready n) p
-      same = queue-other (ready n) ready-quiet n ready-n 0 (omega arith) first-unused 1 9 0 0 proper-its
+      same : (p : ℕ) → (p ≡ 0 → ⊥) → stationAt (queue (ready n) 0 itsRequest .bench) p ≡ stationAt (ready n) p
+      same = queue-other (ready n) ready-quiet n ready-n 0 (omega arith) first-unused itsRequest proper-its
 
-      go : (p : ℕ) → p < n → (t : Bool) → eqb p 0 ≡ t → (u : Bool) → eqb p (n - 1) ≡ u → waiting (stationAt (queue (ready n) 0 1 9 0 0 .bench) p) ≡ load n (foreign ∷ []) p
+      go : (p : ℕ) → p < n → (t : Bool) → eqb p 0 ≡ t → (u : Bool) → eqb p (n - 1) ≡ u → waiting (stationAt (queue (ready n) 0 itsRequest .bench) p) ≡ load n (foreign ∷ []) p
       go p h true e u d =
           let z : p ≡ 0 = eqb-true p 0 e in
-          ap (λ (i : ℕ). waiting (stationAt (queue (ready n) 0 1 9 0 0 .bench) i)) z
-          ∙ queue-here (ready n) ready-quiet n ready-n 0 (omega arith) first-unused 1 9 0 0 proper-its
+          ap (λ (i : ℕ). waiting (stationAt (queue (ready n) 0 itsRequest .bench) i)) z
+          ∙ queue-here (ready n) ready-quiet n ready-n 0 (omega arith) first-unused itsRequest proper-its
           ∙ sym (ap (load n (foreign ∷ [])) z ∙ load-first n (foreign ∷ []))
       go p h false e true d =
           let z : p ≡ n - 1 = eqb-true p (n - 1) d in
