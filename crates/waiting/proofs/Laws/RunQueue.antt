@@ -35,18 +35,18 @@ use Rattle.bench_theorems.proofs.Laws.FullSet.{seats-most, full-live}
 use Rattle.waiting.proofs.Laws.RunWaiting.{waiting, resting-all}
 
 -- a member that takes part, with an empty send list
-pub record Unused (n p : ℕ) (s : Station) : Type 0 where
-  pub member : Member n p s
+pub record Unused (n limit p : ℕ) (s : Station) : Type 0 where
+  pub member : Member n limit p s
   pub takes-part : moveOf (stateOf s) Queue ≡ runs
   pub empty : s .sends ≡ none
   pub none-flies : flight (awaitedOf s) .on ≡ false
 
-pub unused-waits : {n p : ℕ} {s : Station} → Unused n p s → waiting s ≡ []
+pub unused-waits : {n limit p : ℕ} {s : Station} → Unused n limit p s → waiting s ≡ []
 unfolding waiting
-unused-waits {n} {p} {s} u = resting-all (flight (awaitedOf s)) (u .none-flies) (all (s .sends)) ∙ ap all (u .empty)
+unused-waits {n} {limit} {p} {s} u = resting-all (flight (awaitedOf s)) (u .none-flies) (all (s .sends)) ∙ ap all (u .empty)
 
 -- the lowest free place of an empty list
-pub unused-place : {n p : ℕ} {s : Station} → Unused n p s → lowestFree (all (s .sends)) ≡ 0
+pub unused-place : {n limit p : ℕ} {s : Station} → Unused n limit p s → lowestFree (all (s .sends)) ≡ 0
 unfolding lowestFree freeFrom hasPlace pick
 unused-place u = ap (λ (l : Messages). lowestFree (all l)) (u .empty)
 
@@ -82,7 +82,7 @@ proper-passes n p alive len r e room g =
 abbrev pub onlyOne : Request → Message
 onlyOne r = messageFor r 0
 
-module _ {n p : ℕ} {s : Station} (most : n ≤ 64) (u : Unused n p s) (r : Request) (g : Proper n p r) where
+module _ {n limit p : ℕ} {s : Station} (most : n ≤ 64) (u : Unused n limit p s) (r : Request) (g : Proper n p r) where
   passes : queueNumber s r ≡ 0
   passes =
       ap (λ (i : ℕ). queueRefusal i (s .own) (liveAt (s .live) (r .to)) (s .sends .len) r) (u .member .same-n)
@@ -108,7 +108,7 @@ module _ {n p : ℕ} {s : Station} (most : n ≤ 64) (u : Unused n p s) (r : Req
 -- ---- on the bench
 
 module _
-    (b : Bench) (q : Quiet b) (n : ℕ) (same-n : b .n ≡ n) (p : ℕ) (place : p < n) (u : Unused n p (stationAt b p)) (r : Request)
+    {limit : ℕ} (b : Bench) (q : Quiet limit b) (n : ℕ) (same-n : b .n ≡ n) (p : ℕ) (place : p < n) (u : Unused n limit p (stationAt b p)) (r : Request)
     (g : Proper n p r)
   where
     most : n ≤ 64

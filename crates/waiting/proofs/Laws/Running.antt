@@ -30,6 +30,7 @@ pub holds-queue : (n : ℕ) (x : Spot) (m : Message) (b : Bench) → Holds n x m
     → Holds n x m (queue b from q .bench)
 holds-queue n x m b h from q =
     record {
+      limit = h .limit;
       quiet = quiet-queue b (h .quiet) from q;
       size = queue-n b (h .quiet) from q ∙ h .size;
       member = h .member;

@@ -1,4 +1,4 @@
--- Demand 3: on a fault-free ring of N stations, from 2 to 64, an accepted message that stays strictly above every other waiting one until
+-- Demand 3: on a fault-free ring of N stations, from 2 to 64, with a retry limit from 1 to 15, an accepted message that stays strictly above every other waiting one until
 -- it goes waits for at most 2N+1 short frames and one foreign information frame; it goes no later than as the (2N+3)th frame composed after
 -- its acceptance, and what goes is the message. Whatever ran before, and whatever queue calls fall between the steps. Assumes nothing.
 use mathlib.Core.Path.{_≡_, refl, subst, _∙_}
@@ -59,19 +59,20 @@ module _ (n : ℕ) (x : Spot) (m : Message) (b : Bench) (h : Holds n x m b) (aft
       }
 
 -- every ring, every run, every accepted call, and everything after it
-pub bound : (n : ℕ) → 2 ≤ n → n ≤ 64 → (es : List Event) (from : ℕ) (r : Request)
-    → queue (atQueue n es) from r .number ≡ 0
+pub bound : (n limit : ℕ) → 2 ≤ n → n ≤ 64 → 1 ≤ limit → limit ≤ 15 → (es : List Event) (from : ℕ) (r : Request)
+    → queue (atQueue n limit es) from r .number ≡ 0
     → (after : List Event)
-    → StaysOnTop (spotFor (atQueue n es) from) (r .priority) (queue (atQueue n es) from r .bench) after
-    → Bound n (spotFor (atQueue n es) from) (newMessage (stationAt (atQueue n es) from) r)
-    (queue (atQueue n es) from r .bench) after
-bound n two most es from r z after t =
-    let b : Bench = atQueue n es in
-    let q : Quiet b = reached-quiet n two most es in
-    let size : b .n ≡ n = reached-n n two most es in
+    → StaysOnTop (spotFor (atQueue n limit es) from) (r .priority) (queue (atQueue n limit es) from r .bench) after
+    → Bound n (spotFor (atQueue n limit es) from) (newMessage (stationAt (atQueue n limit es) from) r)
+    (queue (atQueue n limit es) from r .bench) after
+bound n limit two most low high es from r z after t =
+    let b : Bench = atQueue n limit es in
+    let q : Quiet limit b = reached-quiet n limit two most low high es in
+    let size : b .n ≡ n = reached-n n limit two most low high es in
     let a = accepted-waits b q from r z in
     held-bound n (spotFor b from) (newMessage (stationAt b from) r) (queue b from r .bench)
     (record {
+      limit = limit;
       quiet = quiet-queue b q from r;
       size = queue-n b q from r ∙ size;
       member = subst (λ (i : ℕ). from < i) size (a .member);
