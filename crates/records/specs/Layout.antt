@@ -1,5 +1,6 @@
 -- The record's layout: the place of each field, said once. A field begins where the one before it ends.
 use Prim.Native.Nat.{ℕ, _+_, _*_}
+use Rattle.codec.specs.Sizes.{mostInformation}
 
 -- ---- the parts of a record
 
@@ -117,7 +118,7 @@ messageLength = 6
 -- ---- the store
 
 abbrev pub placeLength : ℕ
-placeLength = 1492
+placeLength = mostInformation
 
 -- receive places follow the 16 send places
 abbrev pub receivePlaces : ℕ

@@ -67,7 +67,7 @@ pub const MESSAGE_LENGTH_IN: usize = 4;
 pub const MESSAGE: usize = 6;
 
 // The store: 16 send places, then 16 receive places.
-pub const PLACE: usize = 1492;
+pub const PLACE: usize = codec::sizes::INFORMATION;
 
 pub const RECEIVE_PLACES: usize = 16;
 
