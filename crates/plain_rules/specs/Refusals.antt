@@ -4,6 +4,7 @@ use mathlib.Core.List.{List, [], _∷_}
 use Prim.Native.Nat.{ℕ}
 use lib.Dec.{leb, eqb, ltb}
 use Rattle.codec.specs.Order.{firstOf}
+use Rattle.codec.specs.Sizes.{mostInformation}
 use Rattle.parts.specs.declared.list.Best.{Best}
 use Rattle.parts.specs.declared.request.Request.{Request}
 
@@ -29,7 +30,7 @@ queueRefusal n own live len q =
     ∷ (eqb (q .to) own, 15)
     ∷ (not live, 16)
     ∷ (ltb 7 (q .channel), 17)
-    ∷ (ltb 1492 (q .length), 18)
+    ∷ (ltb mostInformation (q .length), 18)
     ∷ (leb 16 len, 19)
     ∷ [])
 

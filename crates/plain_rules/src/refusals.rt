@@ -1,6 +1,7 @@
 // Checks in their order: the number of the first that holds, or 0.
 ghost use mathlib.Core.Path.{_≡_};
 ghost use Rattle.plain_rules.specs.Refusals.{heardRefusal, queueRefusal, takeRefusal};
+use codec::sizes::INFORMATION;
 use parts::list::Best;
 use parts::request::Request;
 
@@ -48,7 +49,7 @@ pub fn queue_refusal(n: u8, own: u8, live: bool, len: usize, q: Request) -> u32
     if 7 < q.channel {
         return 17;
     }
-    if 1492 < q.length {
+    if INFORMATION < q.length {
         return 18;
     }
     if 16 <= len {
