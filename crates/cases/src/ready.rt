@@ -1,5 +1,8 @@
 // Stations made ready for a case by the calls themselves, and frames for them to hear. Rings have four members and R = 1.
 use parts::frame::Frame;
+use parts::frame::InformationFrame;
+use parts::frame::TokenFrame;
+use parts::frame::TransmitFrame;
 use parts::frame::Whom;
 use station::station::Station;
 
@@ -29,42 +32,42 @@ pub fn with(s: Station, to: usize, priority: usize) -> Station {
 }
 
 pub fn token(number: u16, priority: u8, master: u8, named: u8) -> Frame {
-    Frame::Token {
+    Frame::Token(TokenFrame {
         number,
         priority,
         master,
         failing: Whom::Nobody,
         named,
-    }
+    })
 }
 
 pub fn failing(number: u16, priority: u8, master: u8, failed: u8, named: u8) -> Frame {
-    Frame::Token {
+    Frame::Token(TokenFrame {
         number,
         priority,
         master,
         failing: Whom::Member(failed),
         named,
-    }
+    })
 }
 
 pub fn transmit(number: u16, priority: u8, master: u8, named: u8) -> Frame {
-    Frame::Transmit {
+    Frame::Transmit(TransmitFrame {
         number,
         priority,
         master,
         named,
-    }
+    })
 }
 
 pub fn information(number: u16, priority: u8, channel: u8) -> Frame {
-    Frame::Information {
+    Frame::Information(InformationFrame {
         number,
         priority,
         channel,
         length: 10,
         place: 0,
-    }
+    })
 }
 
 // It hears `from` tell `to` that `p` fails.

@@ -37,38 +37,22 @@ fn write_failing(w: Whom) {
 
 fn write_frame(f: Frame, from: u8, to: u8) {
     match f {
-        Frame::Token {
-            number,
-            priority,
-            master,
-            failing,
-            named,
-        } => {
-            write_first(number, b" T", from, to, priority);
-            show::field(b" master ", master as u64);
+        Frame::Token(t) => {
+            let failing = t.failing;
+            write_first(t.number, b" T", from, to, t.priority);
+            show::field(b" master ", t.master as u64);
             write_failing(failing);
-            show::field(b" named ", named as u64);
+            show::field(b" named ", t.named as u64);
         }
-        Frame::Transmit {
-            number,
-            priority,
-            master,
-            named,
-        } => {
-            write_first(number, b" G", from, to, priority);
-            show::field(b" master ", master as u64);
-            show::field(b" named ", named as u64);
+        Frame::Transmit(t) => {
+            write_first(t.number, b" G", from, to, t.priority);
+            show::field(b" master ", t.master as u64);
+            show::field(b" named ", t.named as u64);
         }
-        Frame::Information {
-            number,
-            priority,
-            channel,
-            length,
-            place: _,
-        } => {
-            write_first(number, b" I", from, to, priority);
-            show::field(b" channel ", channel as u64);
-            show::field(b" length ", length as u64);
+        Frame::Information(i) => {
+            write_first(i.number, b" I", from, to, i.priority);
+            show::field(b" channel ", i.channel as u64);
+            show::field(b" length ", i.length as u64);
         }
     }
 }
