@@ -8,8 +8,10 @@ use Rattle.parts.specs.Choose.{pick}
 use Rattle.parts.specs.Live.{seats}
 use Rattle.parts.specs.declared.frame.Dispatch.{Dispatch}
 use Rattle.parts.specs.declared.frame.Dispatch.the-variants.{Nothing, Sent}
+use Rattle.parts.specs.declared.frame.Frame.{Frame}
 use Rattle.parts.specs.declared.frame.Frame.the-variants.{Transmit}
 use Rattle.parts.specs.declared.request.Request.{Request}
+use Rattle.plain_rules.specs.Round.{granting}
 use Rattle.station.specs.Queue.{queueRule}
 use Rattle.station.specs.declared.station.Answer.{Answer}
 use Rattle.station.specs.declared.station.Station.{Station}
@@ -46,8 +48,12 @@ touchedIn (suc k) ss h p = pick (staysAt ss h p) (touchedIn k ss h (suc p)) p
 abbrev pub benchIn : Going → List Station → Bench
 benchIn g ss = record { n = g .n; stations = ss; wire = g .wire }
 
+-- where nothing is on the wire
+abbrev pub noFrame : Frame
+noFrame = Transmit (granting 0 0 0 0)
+
 abbrev pub handingBy : Going → Dispatch → Handing
-handingBy g Nothing = record { n = g .n; m = seats (g .n); frame = Transmit 0 0 0 0; quiet = true; from = 0; to = 0 }
+handingBy g Nothing = record { n = g .n; m = seats (g .n); frame = noFrame; quiet = true; from = 0; to = 0 }
 handingBy g (Sent frame to) =
     record { n = g .n; m = seats (g .n); frame = frame; quiet = isQuiet frame; from = g .wire .from; to = to }
 

@@ -16,6 +16,7 @@ ghost use Rattle.bench.specs.Table.{hears, staysAt, touchedIn, handingOf
 use crate::ring::Wire;
 use parts::frame::Dispatch;
 use parts::frame::Frame;
+use parts::frame::TransmitFrame;
 use parts::request::Request;
 use station::rules::light::Light;
 use station::station::Station;
@@ -163,12 +164,12 @@ pub fn handing_of(g: Going) -> Handing
         Dispatch::Nothing => Handing {
             n: g.n,
             m,
-            frame: Frame::Transmit {
+            frame: Frame::Transmit(TransmitFrame {
                 number: 0,
                 priority: 0,
                 master: 0,
                 named: 0,
-            },
+            }),
             quiet: true,
             from: 0,
             to: 0,

@@ -11,6 +11,7 @@ use Rattle.parts.specs.declared.frame.Whom.the-variants.{Nobody}
 use Rattle.parts.specs.declared.frame.Frame.the-variants.{Token}
 use Rattle.parts.specs.declared.frame.Dispatch.the-variants.{Sent}
 use Rattle.plain_rules.specs.Heard.{acknowledges}
+use Rattle.plain_rules.specs.Round.{opening}
 use Rattle.bench.specs.Calls.{queue}
 use Rattle.bench.specs.Runs.{queued, stepping}
 use Rattle.bench.specs.Text.{lineFeed}
@@ -44,7 +45,7 @@ wire n = wireOctets (information 1 0 0 n)
 
 -- 1 where a token of number k to station 1 is acknowledged by a frame of number j from a station, else 0
 acknowledgedBy : ℕ → ℕ → ℕ → ℕ
-acknowledgedBy k j from = cond (acknowledges (Sent (Token k 0 0 Nobody 0) 1) from j) 1 0
+acknowledgedBy k j from = cond (acknowledges (Sent (Token (opening 0 0 k Nobody)) 1) from j) 1 0
 
 -- the octets of a text, and of lines of text
 octets : String → List ℕ

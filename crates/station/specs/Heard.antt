@@ -20,6 +20,7 @@ use Rattle.parts.specs.declared.moves.Event.the-variants.{Heard}
 use Rattle.parts.specs.declared.list.Message.{Message}
 use Rattle.parts.specs.declared.frame.Whom.{Whom}
 use Rattle.parts.specs.declared.frame.Whom.the-variants.{Nobody, Member}
+use Rattle.parts.specs.declared.frame.InformationFrame.{InformationFrame}
 use Rattle.parts.specs.declared.frame.Frame.{Frame}
 use Rattle.parts.specs.declared.frame.Frame.the-variants.{Token, Transmit, Information}
 use Rattle.parts.specs.declared.frame.Dispatch.{Dispatch}
@@ -92,9 +93,9 @@ nothingMore s to k = stops (s .own) (s .turn) to k
 -- ---- 5. the number is recorded as handled, and a frame is sent with the next number
 
 -- the message of a heard information frame: its other end is the sender; in the lowest free place
-abbrev pub heardMessage : Station → ℕ → ℕ → ℕ → ℕ → Message
-heardMessage s from priority channel length =
-    record { other = from; priority = priority; channel = channel; length = length; place = lowestFree (all (s .receives)) }
+abbrev pub heardMessage : Station → ℕ → InformationFrame → Message
+heardMessage s from i =
+    record { other = from; priority = i .priority; channel = i .channel; length = i .length; place = lowestFree (all (s .receives)) }
 
 -- "stored, or counted lost if 16 are there"
 unfoldable pub receive : Station → Message → Stored
@@ -105,9 +106,9 @@ receive s m =
 
 -- who stores a heard frame: the addressee, if it is information
 unfoldable pub stored : Station → ℕ → Frame → Stored
-stored s from (Token number priority master failing named) = record { station = s; payload = NoPayload }
-stored s from (Transmit number priority master named) = record { station = s; payload = NoPayload }
-stored s from (Information number priority channel length place) = receive s (heardMessage s from priority channel length)
+stored s from (Token t) = record { station = s; payload = NoPayload }
+stored s from (Transmit t) = record { station = s; payload = NoPayload }
+stored s from (Information i) = receive s (heardMessage s from i)
 
 abbrev pub sendOn : Struck → Stored → ℕ → Dispatch → Answer
 sendOn k t number d =

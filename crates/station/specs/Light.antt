@@ -50,9 +50,9 @@ rested t acked = pick acked (quietTurn t Idle) t
 
 -- information is stored
 abbrev pub isInformation : Frame → Bool
-isInformation (Token number priority master failing named) = false
-isInformation (Transmit number priority master named) = false
-isInformation (Information number priority channel length place) = true
+isInformation (Token t) = false
+isInformation (Transmit t) = false
+isInformation (Information i) = true
 
 -- "the number is recorded as handled and a frame is sent with the next number"
 abbrev pub replied : Station → Frame → Light

@@ -37,8 +37,8 @@ module _ (n limit : ℕ) (two : 2 ≤ n) (most : n ≤ 64) (low : 1 ≤ limit) (
         addressee-member = proper .member;
         another = proper .another;
         fits = proper .fits;
-        phase = token 0 0 0 0 refl (omega arith);
-        offers = no-bid 0 0 0 _ 0 refl refl;
+        phase = token _ refl refl (omega arith);
+        offers = no-bid _ refl refl;
         before = 0;
         before-member = omega arith;
         first = λ e. refl;

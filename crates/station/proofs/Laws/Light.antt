@@ -78,9 +78,9 @@ no-failing (Member p) t a h = absurd (false≢true (sym h))
 
 no-flight : (d : Dispatch) → flight d .on ≡ false → noFlight ≡ flight d
 no-flight Nothing h = refl
-no-flight (Sent (Token number priority master failing named) to) h = refl
-no-flight (Sent (Transmit number priority master named) to) h = refl
-no-flight (Sent (Information number priority channel length place) to) h = absurd (false≢true (sym h))
+no-flight (Sent (Token t) to) h = refl
+no-flight (Sent (Transmit t) to) h = refl
+no-flight (Sent (Information i) to) h = absurd (false≢true (sym h))
 
 module _ (s : Station) (a : Bool) (h : carries (s .turn) a ≡ false) where
   same-flight : flight (rested (s .turn) a .awaited) ≡ flight (awaitedOf s)
@@ -108,9 +108,9 @@ acknowledges-alone s from k = go (acknowledged s from k)
 
 not-stored : (s : Station) (from : ℕ) (f : Frame) → isInformation f ≡ false → _≡_ {A = Stored} (stored s from f) (record { station = s; payload = NoPayload })
 unfolding stored
-not-stored s from (Token number priority master failing named) h = refl
-not-stored s from (Transmit number priority master named) h = refl
-not-stored s from (Information number priority channel length place) h = absurd (false≢true (sym h))
+not-stored s from (Token t) h = refl
+not-stored s from (Transmit t) h = refl
+not-stored s from (Information i) h = absurd (false≢true (sym h))
 
 module _ (s : Station) (f : Frame) (from to : ℕ) where
   abbrev acked : Bool

@@ -11,6 +11,7 @@ use crate::station::Station;
 use crate::station::Turn;
 use parts::frame::Dispatch;
 use parts::frame::Frame;
+use parts::frame::InformationFrame;
 use parts::frame::Whom;
 use parts::list::Message;
 use parts::moves::Event;
@@ -154,15 +155,15 @@ pub fn receive_it(s: Station, m: Message) -> Stored
     }
 }
 
-pub fn heard_message(s: Station, from: u8, priority: u8, channel: u8, length: u16) -> Message
-    ensures { λ r. ⌜ r ≡ heardMessage s from priority channel length ⌝ }
+pub fn heard_message(s: Station, from: u8, i: InformationFrame) -> Message
+    ensures { λ r. ⌜ r ≡ heardMessage s from i ⌝ }
 {
     let place = parts::list::lowest_free(s.receives);
     Message {
         other: from,
-        priority,
-        channel,
-        length,
+        priority: i.priority,
+        channel: i.channel,
+        length: i.length,
         place,
     }
 }
@@ -171,33 +172,16 @@ pub fn store(s: Station, from: u8, f: Frame) -> Stored
     ensures { λ r. ⌜ r ≡ stored s from f ⌝ }
 {
     match f {
-        Frame::Token {
-            number: _,
-            priority: _,
-            master: _,
-            failing: _,
-            named: _,
-        } => Stored {
+        Frame::Token(_) => Stored {
             station: s,
             payload: Payload::NoPayload,
         },
-        Frame::Transmit {
-            number: _,
-            priority: _,
-            master: _,
-            named: _,
-        } => Stored {
+        Frame::Transmit(_) => Stored {
             station: s,
             payload: Payload::NoPayload,
         },
-        Frame::Information {
-            number: _,
-            priority,
-            channel,
-            length,
-            place: _,
-        } => {
-            let m = heard_message(s, from, priority, channel, length);
+        Frame::Information(i) => {
+            let m = heard_message(s, from, i);
             receive_it(s, m)
         }
     }

@@ -66,26 +66,9 @@ pub fn is_information(f: Frame) -> bool
     ensures { λ r. ⌜ r ≡ isInformation f ⌝ }
 {
     match f {
-        Frame::Token {
-            number: _,
-            priority: _,
-            master: _,
-            failing: _,
-            named: _,
-        } => false,
-        Frame::Transmit {
-            number: _,
-            priority: _,
-            master: _,
-            named: _,
-        } => false,
-        Frame::Information {
-            number: _,
-            priority: _,
-            channel: _,
-            length: _,
-            place: _,
-        } => true,
+        Frame::Token(_) => false,
+        Frame::Transmit(_) => false,
+        Frame::Information(_) => true,
     }
 }
 

@@ -120,9 +120,9 @@ receive-sends s m = pick-either (λ (t : Stored). t .station .sends ≡ s .sends
 
 stored-sends : (s : Station) (from : ℕ) (f : Frame) → stored s from f .station .sends ≡ s .sends
 unfolding stored
-stored-sends s from (Token number priority master failing named) = refl
-stored-sends s from (Transmit number priority master named) = refl
-stored-sends s from (Information number priority channel length′ place) = receive-sends s _
+stored-sends s from (Token t) = refl
+stored-sends s from (Transmit t) = refl
+stored-sends s from (Information i) = receive-sends s _
 
 respond-leaves : (s : Station) (k : Struck) (w : Whom) (flew landed : Bool) (from to : ℕ) (f : Frame) → Leaves s (k .station) (k .gone) w flew landed
     → AnswerLeaves s w flew landed (respond k from to f)

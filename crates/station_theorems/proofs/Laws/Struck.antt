@@ -54,9 +54,9 @@ module _ (l : Messages) (g : Message → Bool) where
       → awaitedGood st n own l d ≡ true → awaitedGood st n own (pack (only g (all l))) d ≡ true
   unfolding awaitedGood carried
   awaited-kept st n own Nothing w e = e
-  awaited-kept st n own (Sent (Token number priority master failing named) to) w e = e
-  awaited-kept st n own (Sent (Transmit number priority master named) to) w e = e
-  awaited-kept st n own (Sent (Information number priority channel length′ place) to) w e =
+  awaited-kept st n own (Sent (Token t) to) w e = e
+  awaited-kept st n own (Sent (Transmit t) to) w e = e
+  awaited-kept st n own (Sent (Information i) to) w e =
       let t = held _ e in
       hold _ (
         t .0,
@@ -66,7 +66,7 @@ module _ (l : Messages) (g : Message → Bool) where
             t .1 .1 .0,
             (
               t .1 .1 .1 .0,
-              (ap (λ (b : Best). sameMessage b to priority channel length′) (best-kept place (λ m q. w m (eq-eqb place (m .place) (sym q)))) ∙ t .1 .1 .1 .1 .0, tt),
+              (ap (λ (b : Best). sameMessage b to i) (best-kept (i .place) (λ m q. w m (eq-eqb (i .place) (m .place) (sym q)))) ∙ t .1 .1 .1 .1 .0, tt),
             ),
           ),
         ),

@@ -61,9 +61,9 @@ receive-same s m =
 
 stored-same : (s : Station) (from : ℕ) (f : Frame) → Same s (stored s from f .station)
 unfolding stored
-stored-same s from (Token number priority master failing named) = same s
-stored-same s from (Transmit number priority master named) = same s
-stored-same s from (Information number priority channel length place) = receive-same s _
+stored-same s from (Token t) = same s
+stored-same s from (Transmit t) = same s
+stored-same s from (Information i) = receive-same s _
 
 -- ---- a failing station
 

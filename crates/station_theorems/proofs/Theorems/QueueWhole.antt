@@ -51,12 +51,12 @@ waiters-pushed st l f ms m h = go (isExcluded st)
 module _ (l : Messages) (m : Message) (full : length (l .items) ≡ 16) (room : l .len < 16) (free : hasPlace (all l) (m .place) ≡ false) where
   carried-pushed : (f : Frame) (to : ℕ) → carried l f to ≡ true → carried (pushed l m) f to ≡ true
   unfolding carried best sameMessage
-  carried-pushed (Token number priority master failing named) to e = refl
-  carried-pushed (Transmit number priority master named) to e = refl
-  carried-pushed (Information number priority channel length place) to e = ap (λ (b : Best). sameMessage b to priority channel length) same ∙ e
+  carried-pushed (Token t) to e = refl
+  carried-pushed (Transmit t) to e = refl
+  carried-pushed (Information i) to e = ap (λ (b : Best). sameMessage b to i) same ∙ e
     where
-      same : best (HasPlace place) (pushed l m) ≡ best (HasPlace place) l
-      same = ap (λ (ms : List Message). bestOf (HasPlace place) ms noBest) (push-all l m full room) ∙ best-pushed place (all l) m (held _ e .0) free
+      same : best (HasPlace (i .place)) (pushed l m) ≡ best (HasPlace (i .place)) l
+      same = ap (λ (ms : List Message). bestOf (HasPlace (i .place)) ms noBest) (push-all l m full room) ∙ best-pushed (i .place) (all l) m (held _ e .0) free
 
   awaited-pushed : (st : State) (n own : ℕ) (d : Dispatch) → awaitedGood st n own l d ≡ true → awaitedGood st n own (pushed l m) d ≡ true
   unfolding awaitedGood

@@ -12,7 +12,7 @@ use Rattle.parts.specs.Messages.{all, pushed}
 use Rattle.parts.specs.Live.{liveAt}
 use Rattle.parts.specs.Frames.{numberOf, next, failingOf, flight}
 use Rattle.station.specs.Stations.{awaitedOf, made, withSends, withLive, quiet, sending, head, answered, moved, unless, alone}
-use Rattle.plain_rules.specs.Round.{ownBid, forward, startRound}
+use Rattle.plain_rules.specs.Round.{bidOf, ownBid, forward, startRound}
 use Rattle.station.specs.Start.{started, startRule}
 use Rattle.station.specs.Strike.{strike, giveUpTo, giveUpAt, giveUpFlight, leave, messageAt, nothingGone, told, stopped}
 use Rattle.plain_rules.specs.Heard.{newly}
@@ -139,9 +139,9 @@ module _ (n limit : ℕ) where
 
   stored-small : (s : Station) (from : ℕ) (f : Frame) → Small n limit s → SmallFrame f → Small n limit (stored s from f .station)
   unfolding stored receive
-  stored-small s from (Token number priority master failing named) h q = h
-  stored-small s from (Transmit number priority master named) h q = h
-  stored-small s from (Information number priority channel length place) h q =
+  stored-small s from (Token t) h q = h
+  stored-small s from (Transmit t) h q = h
+  stored-small s from (Information i) h q =
       pick-keeps (λ (t : Stored). Small n limit (t .station)) (leb 16 (s .receives .len)) _ _
       (record { n-is = h .n-is; limit-is = h .limit-is; sends = h .sends; receives = h .receives; awaited = h .awaited; handled = h .handled; lost = add-small (s .lost) 1 (h .lost); givenup = h .givenup })
       (record { n-is = h .n-is; limit-is = h .limit-is; sends = h .sends; receives = push-small (s .receives) _ (h .receives) (q .priority); awaited = h .awaited; handled = h .handled; lost = h .lost; givenup = h .givenup })
@@ -163,20 +163,20 @@ module _ (n limit : ℕ) where
 
   resend-small : (v : Sight) → SmallBest (v .head) → (to : ℕ) (f : Frame) → SmallFrame f → SmallDispatch (resend v to f)
   unfolding resend tokenAgain renamed
-  resend-small v h to (Token number priority master failing named) q = go (eqb master (v .own)) (not (liveAt (v .live) master))
+  resend-small v h to (Token t) q = go (eqb (t .master) (v .own)) (not (liveAt (v .live) (t .master)))
     where
-      bid : pick (eqb named to) (ownBid v) (record { priority = priority; named = named }) .priority < 256
-      bid = pick-keeps (λ (x : Bid). x .priority < 256) (eqb named to) _ _ (own-small v h (next number) (next-small number)) (q .priority)
+      bid : pick (eqb (t .named) to) (ownBid v) (bidOf t) .priority < 256
+      bid = pick-keeps (λ (x : Bid). x .priority < 256) (eqb (t .named) to) _ _ (own-small v h (next (t .number)) (next-small (t .number))) (q .priority)
 
       go : (a b : Bool)
           → SmallDispatch
-          (firstOf (forward v (next number) master (Member to) (pick (eqb named to) (ownBid v) (record { priority = priority; named = named })))
-          ((a, startRound v (next number) (Member to)) ∷ (b, startRound v (next number) (Member to)) ∷ []))
-      go true b = start-small v h (next number) (next-small number) _
-      go false true = start-small v h (next number) (next-small number) _
-      go false false = record { number = next-small number; priority = bid }
-  resend-small v h to (Transmit number priority master named) q = start-small v h (next number) (next-small number) _
-  resend-small v h to (Information number priority channel length place) q = start-small v h (next number) (next-small number) _
+          (firstOf (forward v (next (t .number)) t (Member to) (pick (eqb (t .named) to) (ownBid v) (bidOf t)))
+          ((a, startRound v (next (t .number)) (Member to)) ∷ (b, startRound v (next (t .number)) (Member to)) ∷ []))
+      go true b = start-small v h (next (t .number)) (next-small (t .number)) _
+      go false true = start-small v h (next (t .number)) (next-small (t .number)) _
+      go false false = record { number = next-small (t .number); priority = bid }
+  resend-small v h to (Transmit t) q = start-small v h (next (t .number)) (next-small (t .number)) _
+  resend-small v h to (Information i) q = start-small v h (next (i .number)) (next-small (i .number)) _
 
   unanswered-small : (s : Station) (to : ℕ) → Small n limit s → SmallStruck (unanswered s to)
   unfolding unanswered
