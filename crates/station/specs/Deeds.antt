@@ -152,5 +152,5 @@ turnAlone s v =
     }
 
 -- what was decided is done
-unfoldable pub done : Station → Verdict → Answer
-done s v = pick (v .alone) (turnAlone s v) (fully s v)
+unfoldable pub carriedOut : Station → Verdict → Answer
+carriedOut s v = pick (v .alone) (turnAlone s v) (fully s v)

@@ -18,7 +18,7 @@ use Rattle.station.specs.Strike.{Struck}
 use Rattle.station.specs.Start.{sentFirst, started, startRule}
 use Rattle.station.specs.Heard.{checks, acknowledged, acknowledge, failed, isLast, stops, nothingMore, heardMessage, receive, stored, sendOn, handle, silent, respond, heard, frameRule}
 use Rattle.station.specs.Timer.{again, unanswered, leftAlone, goesOn, afterStrike, silence, onTimer, timerRule}
-use Rattle.station.specs.Deeds.{refused, turned, landing, leaving, liveAfter, struckBy, left, touched, storing, fully, done, verdict, turnAlone}
+use Rattle.station.specs.Deeds.{refused, turned, landing, leaving, liveAfter, struckBy, left, touched, storing, fully, carriedOut, verdict, turnAlone}
 use Rattle.station.specs.Decide.{liveWithout, competing, sightAfter, rested, landsBy, blowAt, blowOf, closed, courseOf, toStore, storesToo, quietly, replying, hearing, decided, moreTurn, strikesOut, goingOn, lastTimer, waited, timing, beginning, starting}
 use Rattle.parts.specs.declared.moves.State.the-variants.{Idle, Alone, Excluded}
 use Rattle.parts.specs.declared.moves.Event.the-variants.{Heard, Timer, Start}
@@ -145,21 +145,21 @@ module _ (s : Station) (f : Frame) (from to : ℕ) where
       (stored-sight (harmed .station) from f ∙ looks s acked to (numberOf f) (failingOf f) h)
       ∙ replies harmed s refl from (reply (sightAfter s (failingOf f)) f) (numberOf f) f
 
-  pub decides : heard s f from to ≡ done s (hearing s f from to (courseOf s f acked))
+  pub decides : heard s f from to ≡ carriedOut s (hearing s f from to (courseOf s f acked))
   unfolding respond nothingMore hearing replying pick
   decides = harms ∙ go (stops (s .own) (closed (rested (s .turn) acked) hit) to (numberOf f)) refl
     where
       go : (b : Bool) → stops (s .own) (closed (rested (s .turn) acked) hit) to (numberOf f) ≡ b
           → pick b (silent harmed) (handle harmed (stored (harmed .station) from f) f)
-          ≡ done s (pick b (quietly (courseOf s f acked)) (replying s f from (courseOf s f acked)))
+          ≡ carriedOut s (pick b (quietly (courseOf s f acked)) (replying s f from (courseOf s f acked)))
       go true e = stays-quiet ∙ either-way s 0 _ _ _
       go false e = answers e ∙ either-way s 0 _ _ _
 
 -- after the table of moves and the checks
-nothing-done : (s : Station) (number : ℕ) → answered s number ≡ done s (refused (s .turn) number)
+nothing-done : (s : Station) (number : ℕ) → answered s number ≡ carriedOut s (refused (s .turn) number)
 nothing-done s number = turned-alone s number (s .turn) Nothing
 
-pub frame-decides : (s : Station) (f : Frame) (from to : ℕ) → frameRule s f from to ≡ done s (decided s f from to)
+pub frame-decides : (s : Station) (f : Frame) (from to : ℕ) → frameRule s f from to ≡ carriedOut s (decided s f from to)
 unfolding frameRule moved unless decided pick
 frame-decides s f from to = go (eqb (moveOf (stateOf s) Heard) runs) (eqb (checks s from to) 0)
   where
@@ -168,7 +168,7 @@ frame-decides s f from to = go (eqb (moveOf (stateOf s) Heard) runs) (eqb (check
 
     go : (b c : Bool)
         → pick b (pick c (heard s f from to) (answered s (checks s from to))) (answered s (moveOf (stateOf s) Heard))
-        ≡ done s (pick b (pick c v (refused (s .turn) (checks s from to))) (refused (s .turn) (moveOf (stateOf s) Heard)))
+        ≡ carriedOut s (pick b (pick c v (refused (s .turn) (checks s from to))) (refused (s .turn) (moveOf (stateOf s) Heard)))
     go true true = decides s f from to
     go true false = nothing-done s (checks s from to)
     go false c = nothing-done s (moveOf (stateOf s) Heard)
@@ -190,31 +190,31 @@ module _ (s : Station) (to : ℕ) where
   unfolding fully storing landing pick
   strikes-fully t d = refl
 
-  goes-alone : leftAlone lone ≡ done s (strikesOut s to (quietTurn (s .turn) Alone) Nothing)
+  goes-alone : leftAlone lone ≡ carriedOut s (strikesOut s to (quietTurn (s .turn) Alone) Nothing)
   goes-alone = strikes-fully (quietTurn (s .turn) Alone) Nothing ∙ either-way s 0 _ _ _
 
-  goes-further : (d : Dispatch) → goesOn lone d ≡ done s (goingOn s to d)
+  goes-further : (d : Dispatch) → goesOn lone d ≡ carriedOut s (goingOn s to d)
   goes-further d = strikes-fully (sendingTurn (s .turn .handled) d) d ∙ either-way s 0 _ _ _
 
-  pub times-last : (f : Frame) → afterStrike (unanswered s to) to f ≡ done s (lastTimer s to f)
+  pub times-last : (f : Frame) → afterStrike (unanswered s to) to f ≡ carriedOut s (lastTimer s to f)
   unfolding afterStrike unanswered lastTimer liveAfter pick
   times-last f = ap (λ (k : Struck). afterStrike k to f) (strikes-out s to) ∙ go (eqb (successor (without (s .live) to) (s .n) (s .own)) (s .own))
     where
       go : (b : Bool)
           → pick b (leftAlone lone) (goesOn lone (resend (sight (quiet (lone .station) Idle)) to f))
-          ≡ done s (pick b (strikesOut s to (quietTurn (s .turn) Alone) Nothing) (goingOn s to (resend (sightAfter s (Member to)) to f)))
+          ≡ carriedOut s (pick b (strikesOut s to (quietTurn (s .turn) Alone) Nothing) (goingOn s to (resend (sightAfter s (Member to)) to f)))
       go true = goes-alone
       go false = ap (λ (v : Sight). goesOn lone (resend v to f)) looks-on ∙ goes-further (resend (sightAfter s (Member to)) to f)
 
-turned-done : (s : Station) (t : Turn) (d : Dispatch) → turnAlone s (turned t d) ≡ done s (turned t d)
+turned-done : (s : Station) (t : Turn) (d : Dispatch) → turnAlone s (turned t d) ≡ carriedOut s (turned t d)
 turned-done s t d = turned-alone s 0 t d
 
-pub timer-decides : (s : Station) (d : Dispatch) → onTimer s d ≡ done s (timing s d)
+pub timer-decides : (s : Station) (d : Dispatch) → onTimer s d ≡ carriedOut s (timing s d)
 unfolding onTimer timing silence waited pick
 timer-decides s Nothing = nothing-done s 0
 timer-decides s (Sent f to) = go (ltb (s .turn .retries) (s .limit))
   where
-    go : (b : Bool) → pick b (again s) (afterStrike (unanswered s to) to f) ≡ done s (pick b (turned (moreTurn (s .turn)) (awaitedOf s)) (lastTimer s to f))
+    go : (b : Bool) → pick b (again s) (afterStrike (unanswered s to) to f) ≡ carriedOut s (pick b (turned (moreTurn (s .turn)) (awaitedOf s)) (lastTimer s to f))
     go true = turned-done s (moreTurn (s .turn)) (awaitedOf s)
     go false = times-last s to f
 

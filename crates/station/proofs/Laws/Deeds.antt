@@ -14,7 +14,7 @@ use Rattle.station.specs.Stations.{withTurn, withSends, withLive, withRe
 use Rattle.station.specs.Round.{sight}
 use Rattle.station.specs.Strike.{Loss, Struck, strike, nothingGone, giveUpTo, leave, giveUpAt, giveUpFlight, told, stopped}
 use Rattle.station.specs.Heard.{acknowledged, landed, acknowledge, strikeOther, strikeHeard, failed, receive}
-use Rattle.station.specs.Deeds.{noDeeds, landing, alsoAt, alsoFlight, allStay, leaving, liveAfter, struckBy, left, touched, storing, fully, done, verdict, untouched, spares, storesNone, turnAlone}
+use Rattle.station.specs.Deeds.{noDeeds, landing, alsoAt, alsoFlight, allStay, leaving, liveAfter, struckBy, left, touched, storing, fully, carriedOut, verdict, untouched, spares, storesNone, turnAlone}
 use Rattle.station.specs.Decide.{liveWithout, competing, sightAfter, rested, landsBy, blowAt, blowOf, closed}
 use Rattle.parts.specs.declared.moves.State.{State}
 use Rattle.parts.specs.declared.moves.State.the-variants.{Idle, Alone, Excluded}
@@ -180,15 +180,15 @@ module _ (s : Station) (m : Message) where
           (record { station = withReceives (withTurn s t) (pushed (s .receives) m); payload = Of m })
           ≡ record {
             station = withTurn
-            (pick {A = Stored} b
-            (record { station = withLost s (addUpTo (s .lost) 1); payload = NoPayload })
-            (record { station = withReceives s (pushed (s .receives) m); payload = Of m })
-            .station)
-            t;
+                (pick {A = Stored} b
+                (record { station = withLost s (addUpTo (s .lost) 1); payload = NoPayload })
+                (record { station = withReceives s (pushed (s .receives) m); payload = Of m })
+                .station)
+                t;
             payload = pick {A = Stored} b
-            (record { station = withLost s (addUpTo (s .lost) 1); payload = NoPayload })
-            (record { station = withReceives s (pushed (s .receives) m); payload = Of m })
-            .payload;
+                (record { station = withLost s (addUpTo (s .lost) 1); payload = NoPayload })
+                (record { station = withReceives s (pushed (s .receives) m); payload = Of m })
+                .payload;
           }
       go true = refl
       go false = refl
@@ -217,35 +217,35 @@ does-nothing s v = go (v .deeds .lands .on) (v .deeds .blow) (v .deeds .stores)
         → turnAlone s v
         ≡ record {
           station = storing
-          (record {
-            n = s .n;
-            limit = s .limit;
-            own = s .own;
-            live = liveAfter (s .live) b;
-            sends = leaving b (v .deeds .flight) (pick a (splitBy (HasPlace (v .deeds .lands .place)) (s .sends) .kept) (s .sends)) .kept;
-            receives = s .receives;
-            turn = v .turn;
-            lost = s .lost;
-            givenup = addUpTo (s .givenup) (leaving b (v .deeds .flight) (pick a (splitBy (HasPlace (v .deeds .lands .place)) (s .sends) .kept) (s .sends)) .gone .len);
-          })
-          p .station;
+              (record {
+                n = s .n;
+                limit = s .limit;
+                own = s .own;
+                live = liveAfter (s .live) b;
+                sends = leaving b (v .deeds .flight) (pick a (splitBy (HasPlace (v .deeds .lands .place)) (s .sends) .kept) (s .sends)) .kept;
+                receives = s .receives;
+                turn = v .turn;
+                lost = s .lost;
+                givenup = addUpTo (s .givenup) (leaving b (v .deeds .flight) (pick a (splitBy (HasPlace (v .deeds .lands .place)) (s .sends) .kept) (s .sends)) .gone .len);
+              })
+              p .station;
           number = v .number;
           sent = v .sent;
           struck = struckBy (s .live) b;
           gone = leaving b (v .deeds .flight) (pick a (splitBy (HasPlace (v .deeds .lands .place)) (s .sends) .kept) (s .sends)) .gone;
           payload = storing
-          (record {
-            n = s .n;
-            limit = s .limit;
-            own = s .own;
-            live = liveAfter (s .live) b;
-            sends = leaving b (v .deeds .flight) (pick a (splitBy (HasPlace (v .deeds .lands .place)) (s .sends) .kept) (s .sends)) .kept;
-            receives = s .receives;
-            turn = v .turn;
-            lost = s .lost;
-            givenup = addUpTo (s .givenup) (leaving b (v .deeds .flight) (pick a (splitBy (HasPlace (v .deeds .lands .place)) (s .sends) .kept) (s .sends)) .gone .len);
-          })
-          p .payload;
+              (record {
+                n = s .n;
+                limit = s .limit;
+                own = s .own;
+                live = liveAfter (s .live) b;
+                sends = leaving b (v .deeds .flight) (pick a (splitBy (HasPlace (v .deeds .lands .place)) (s .sends) .kept) (s .sends)) .kept;
+                receives = s .receives;
+                turn = v .turn;
+                lost = s .lost;
+                givenup = addUpTo (s .givenup) (leaving b (v .deeds .flight) (pick a (splitBy (HasPlace (v .deeds .lands .place)) (s .sends) .kept) (s .sends)) .gone .len);
+              })
+              p .payload;
         }
     go true b p e = absurd (false≢true e)
     go false blow.Spares NoPayload e = rw (add-none (s .givenup))
@@ -255,14 +255,18 @@ does-nothing s v = go (v .deeds .lands .on) (v .deeds .blow) (v .deeds .stores)
     go false (blow.Itself q) p e = absurd (false≢true e)
 
 -- so what is decided may be done either way
-pub either-way : (s : Station) (number : ℕ) (t : Turn) (d : Dispatch) (e : Deeds) → fully s (verdict number t d e) ≡ done s (verdict number t d e)
-unfolding done pick
+pub either-way : (s : Station) (number : ℕ) (t : Turn) (d : Dispatch) (e : Deeds) → fully s (verdict number t d e) ≡ carriedOut s (verdict number t d e)
+unfolding carriedOut pick
 either-way s number t d e = go (untouched e) refl
   where
     go : (b : Bool) → untouched e ≡ b → fully s (verdict number t d e) ≡ pick b (turnAlone s (verdict number t d e)) (fully s (verdict number t d e))
     go true u = sym (does-nothing s (verdict number t d e) u)
     go false u = refl
 
-pub turned-alone : (s : Station) (number : ℕ) (t : Turn) (d : Dispatch) → turnAlone s (verdict number t d noDeeds) ≡ done s (verdict number t d noDeeds)
-unfolding done untouched pick
+pub turned-alone : (s : Station) (number : ℕ) (t : Turn) (d : Dispatch) → turnAlone s (verdict number t d noDeeds) ≡ carriedOut s (verdict number t d noDeeds)
+unfolding carriedOut untouched pick
 turned-alone s number t d = refl
+
+pub carries-turn : (s : Station) (v : Verdict) → v .alone ≡ true → turnAlone s v ≡ carriedOut s v
+unfolding carriedOut
+carries-turn s v e = sym (pick-true _ _ e)

@@ -23,7 +23,6 @@ use Rattle.parts.specs.declared.frame.Dispatch.{Dispatch}
 use Rattle.station.specs.declared.station.Station.{Station}
 use Rattle.station.specs.declared.station.Payload.the-variants.{NoPayload, Of}
 use Rattle.plain_rules.specs.declared.round.Sight.{Sight}
-
 use Rattle.station.specs.declared.rules.heard.Stored.{Stored}
 use Rattle.parts.proofs.Laws.Choose.{pick-true, pick-false}
 use Rattle.station.proofs.Laws.Moved.{moved-runs, unless-passes}

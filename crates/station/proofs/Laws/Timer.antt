@@ -18,7 +18,6 @@ use Rattle.parts.specs.declared.frame.Dispatch.{Dispatch}
 use Rattle.parts.specs.declared.frame.Dispatch.the-variants.{Sent}
 use Rattle.station.specs.declared.station.Station.{Station}
 use Rattle.plain_rules.specs.declared.round.Sight.{Sight}
-
 use Rattle.parts.proofs.Laws.Choose.{pick-true, pick-false}
 use Rattle.station.proofs.Laws.Moved.{moved-runs}
 

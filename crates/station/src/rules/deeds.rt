@@ -15,7 +15,7 @@ ghost use Rattle.station.specs.Deeds.{
   storing,
   untouched,
   turnAlone,
-  done,
+  carriedOut,
 };
 use crate::rules::heard::Stored;
 use crate::station::Answer;
@@ -282,7 +282,7 @@ pub fn turn_alone(s: Station, v: Verdict) -> Answer
 impl Station {
     // What was decided is done.
     pub fn carry_out(self, v: Verdict) -> Answer
-        ensures { λ r. ⌜ r ≡ done self v ⌝ }
+        ensures { λ r. ⌜ r ≡ carriedOut self v ⌝ }
     {
         if v.alone {
             return turn_alone(self, v);

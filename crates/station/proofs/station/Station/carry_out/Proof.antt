@@ -1,7 +1,7 @@
 -- `Station::carry_out` meets its contract: one test, whether the turn alone changes.
 use mathlib.Core.Path.{sym, _∙_}
 use Rattle.parts.proofs.Laws.Choose.{pick-true, pick-false}
-use Rattle.station.specs.Deeds.{fully, done}
+use Rattle.station.specs.Deeds.{fully, carriedOut}
 use borrow.Author.Needs.{needs}
 use Rattle.station.proofs.station.Station.carry_out.Statement.{statement}
 use Rattle.station.proofs.station.Station.carry_out.Tie as tie
@@ -10,7 +10,7 @@ turn-alone-requires : tie.Need-turn-alone-requires
 turn-alone-requires c κs = search needs
 
 returns : tie.Need-returns
-unfolding done fully
+unfolding carriedOut fully
 returns c = c .turn-alone .ensures ∙ sym (pick-true _ _ (c .before .if1 .taken))
 
 leave-requires : tie.Need-leave-requires
@@ -26,7 +26,7 @@ struck-by-requires : tie.Need-struck-by-requires
 struck-by-requires c κs = search needs
 
 returns-2 : tie.Need-returns-2
-unfolding done fully
+unfolding carriedOut fully
 returns-2 c = rw (c .before .struck-by .ensures, c .before .before .before .store .ensures, c .before .before .before .before .touch .ensures, c .before .before .before .before .before .leave .ensures) (sym (pick-false _ _ (c .before .before .before .before .before .before .before .if1 .left)))
 
 pub carry-out-spec : {M : Type 1} → statement M
