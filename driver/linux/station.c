@@ -43,13 +43,13 @@
 #define FILE_MOST (2 + 6 * RTEP_MEMBERS)
 
 static uint8_t record[RTEP_RECORD], store[RTEP_STORE], out[HEADER + RTEP_OUT];
-static uint64_t told[RTEP_TOLD];
+static struct rtep_told told;
 static uint64_t own;
 static int card;            /* the socket */
 static int64_t timer;       /* its length, ns */
 static int64_t deadline;    /* when it runs out, if the station is Waiting */
 static bool all_states;     /* print Idle and Waiting each time */
-static uint8_t shown;       /* the state printed last */
+static enum rtep_state shown; /* the state printed last */
 
 static char line[LINE];     /* standard input that was read and not yet dealt with */
 static size_t line_len;
@@ -82,27 +82,6 @@ static int64_t now(void)
     return (int64_t)t.tv_sec * 1000000000 + t.tv_nsec;
 }
 
-static const char *reason(uint32_t number)
-{
-    switch (number) {
-    case RTEP_FILE_LENGTH: return "its length is not 2 + 6 N octets";
-    case RTEP_FILE_FORM: return "its form number is not 1";
-    case RTEP_FILE_ZERO_BITS: return "its two zero bits are not zero";
-    case RTEP_FILE_ONE_MEMBER: return "it has one member only";
-    case RTEP_FILE_NO_RETRY: return "its retry limit is 0";
-    case RTEP_FILE_BAD_ADDRESS: return "an address of it is zero, or of a group";
-    case RTEP_FILE_SEEN_EARLIER: return "an address of it is there twice";
-    case RTEP_OWN_ABSENT: return "this station's address is not in it";
-    case RTEP_PRIORITY: return "the priority is not 1 to 255";
-    case RTEP_DESTINATION: return "the destination is not another member of the ring";
-    case RTEP_DESTINATION_STRUCK: return "the destination has been struck out";
-    case RTEP_CHANNEL: return "the channel is above 7";
-    case RTEP_PAYLOAD: return "the text is above 1492 octets";
-    case RTEP_NOT_RUNNING: return "this station is not in the ring";
-    default: return "not expected";
-    }
-}
-
 /* Addresses: six pairs of hexadecimal digits, parted by colons. */
 
 static bool read_address(const char *text, uint64_t *address)
@@ -122,21 +101,9 @@ static bool read_address(const char *text, uint64_t *address)
 
 static void print_address(const char *word, uint64_t address)
 {
-    printf("%s %02x:%02x:%02x:%02x:%02x:%02x", word, (unsigned)(address >> 40 & 255), (unsigned)(address >> 32 & 255),
-           (unsigned)(address >> 24 & 255), (unsigned)(address >> 16 & 255), (unsigned)(address >> 8 & 255),
-           (unsigned)(address & 255));
-}
-
-static void put_address(uint8_t *octets, uint64_t address)
-{
-    for (int i = 0; i < 6; i++) octets[i] = (uint8_t)(address >> (40 - 8 * i));
-}
-
-static uint64_t get_address(const uint8_t *octets)
-{
-    uint64_t address = 0;
-    for (int i = 0; i < 6; i++) address = address << 8 | octets[i];
-    return address;
+    uint8_t o[6];
+    rtep_put_address(o, address);
+    printf("%s %02x:%02x:%02x:%02x:%02x:%02x", word, o[0], o[1], o[2], o[3], o[4], o[5]);
 }
 
 /* A whole number of 1 to 9 digits. */
@@ -163,7 +130,7 @@ static void print_notice(const char *word, uint64_t address, uint64_t priority, 
 static void print_state(void)
 {
     static const char *const names[] = {"offline", "idle", "waiting", "alone", "excluded"};
-    uint8_t state = record[RTEP_AT_STATE];
+    enum rtep_state state = rtep_state(record);
     bool running = (state == RTEP_IDLE || state == RTEP_WAITING) && (shown == RTEP_IDLE || shown == RTEP_WAITING);
     if (state != shown && (all_states || !running)) printf("state %s\n", names[state]);
     shown = state;
@@ -172,30 +139,28 @@ static void print_state(void)
 static void take_all(void)
 {
     static uint8_t room[RTEP_PLACE];
-    uint64_t taken[RTEP_TAKEN];
+    struct rtep_taken taken;
     for (size_t channel = 0; channel < RTEP_CHANNELS; channel++)
-        while (rtep_take(record, sizeof record, store, sizeof store, channel, room, sizeof room, taken) == RTEP_DONE)
-            print_notice("taken", taken[RTEP_TAKEN_FROM], taken[RTEP_TAKEN_PRIORITY], taken[RTEP_TAKEN_CHANNEL], room,
-                         taken[RTEP_TAKEN_LENGTH]);
+        while (rtep_take(record, sizeof record, store, sizeof store, channel, room, sizeof room, &taken) == RTEP_DONE)
+            print_notice("taken", taken.from, taken.priority, taken.channel, room, taken.length);
 }
 
 /* Does what start, frame or timer told. A frame that the card refuses is as one lost on the wire: the timer runs. */
 static void act(void)
 {
-    size_t octets = told[RTEP_TOLD_OCTETS];
-    if (octets != 0) {
-        put_address(out, told[RTEP_TOLD_TO]);
-        if (send(card, out, HEADER + octets, 0) < 0) fprintf(stderr, "station: frame not sent: %s\n", strerror(errno));
+    if (told.octets != 0) {
+        rtep_put_address(out, told.to);
+        if (send(card, out, HEADER + told.octets, 0) < 0)
+            fprintf(stderr, "station: frame not sent: %s\n", strerror(errno));
         deadline = now() + timer;
     }
-    if (told[RTEP_TOLD_STRUCK] != 0) {
-        print_address("struck", told[RTEP_TOLD_STRUCK]);
+    if (told.struck != 0) {
+        print_address("struck", told.struck);
         putchar('\n');
     }
-    for (size_t i = 0; i < told[RTEP_TOLD_GIVEN_UP]; i++) {
-        const uint64_t *m = told + RTEP_TOLD_MESSAGE + i * RTEP_TOLD_EACH;
-        print_notice("given-up", m[RTEP_MESSAGE_TO], m[RTEP_MESSAGE_PRIORITY], m[RTEP_MESSAGE_CHANNEL],
-                     store + m[RTEP_MESSAGE_PLACE] * RTEP_PLACE, m[RTEP_MESSAGE_LENGTH]);
+    for (size_t i = 0; i < told.given_up; i++) {
+        const struct rtep_message *m = &told.messages[i];
+        print_notice("given-up", m->to, m->priority, m->channel, rtep_payload(store, m), m->length);
     }
     print_state();
     take_all();
@@ -205,7 +170,7 @@ static void act(void)
 static void done_or_dropped(const char *call, uint32_t number)
 {
     if (number == RTEP_DONE) act();
-    else if (number == RTEP_BUFFER || number == RTEP_NOT_WHOLE) fail(1, "%s gave %" PRIu32, call, number);
+    else if (number == RTEP_REFUSED_BUFFER || number == RTEP_REFUSED_NOT_WHOLE) fail(1, "%s gave %" PRIu32, call, number);
 }
 
 /* Hears what has come, but not for ever where frames come without end: the ring waits for a station that does not
@@ -220,9 +185,9 @@ static void hear_all(void)
         if (got < 0 && (errno == EAGAIN || errno == EWOULDBLOCK)) return;
         if (got < 0 && errno != EINTR && errno != ENETDOWN) fail(1, "cannot hear: %s", strerror(errno));
         if (got < HEADER || from.sll_pkttype == PACKET_OUTGOING) continue;
-        done_or_dropped("frame", rtep_frame(record, sizeof record, store, sizeof store, get_address(heard + 6),
-                                            get_address(heard), heard + HEADER, (size_t)got - HEADER, out + HEADER,
-                                            RTEP_OUT, told));
+        done_or_dropped("frame", rtep_frame(record, sizeof record, store, sizeof store, rtep_address(heard + 6),
+                                            rtep_address(heard), heard + HEADER, (size_t)got - HEADER, out + HEADER,
+                                            RTEP_OUT, &told));
     }
 }
 
@@ -249,10 +214,10 @@ static bool queue_line(const char *text)
     }
     uint32_t number = rtep_queue(record, sizeof record, store, sizeof store, to, priority, channel,
                                  (const uint8_t *)rest, strlen(rest));
-    if (number == RTEP_SEND_LIST_FULL) return false;
-    if (number == RTEP_BUFFER || number == RTEP_NOT_WHOLE) fail(1, "queue gave %" PRIu32, number);
+    if (number == RTEP_REFUSED_LIST_FULL) return false;
+    if (number == RTEP_REFUSED_BUFFER || number == RTEP_REFUSED_NOT_WHOLE) fail(1, "queue gave %" PRIu32, number);
     if (number != RTEP_DONE)
-        fprintf(stderr, "station: notice refused (%" PRIu32 "), %s: %.60s\n", number, reason(number), text);
+        fprintf(stderr, "station: notice refused (%" PRIu32 "), %s: %.60s\n", number, rtep_reason(number), text);
     return true;
 }
 
@@ -297,7 +262,7 @@ static void open_card(const char *name)
         fail(1, "%s does not hear all frames: %s", name, strerror(errno));
     struct sockaddr_ll at = {.sll_family = AF_PACKET, .sll_protocol = htons(ETHER_TYPE), .sll_ifindex = (int)index};
     if (bind(card, (struct sockaddr *)&at, sizeof at) < 0) fail(1, "cannot bind to %s: %s", name, strerror(errno));
-    put_address(out + 6, own);
+    rtep_put_address(out + 6, own);
     out[12] = ETHER_TYPE >> 8;
     out[13] = ETHER_TYPE & 255;
 }
@@ -313,7 +278,7 @@ static void make(const char *path)
     if (got < 0) fail(2, "ring file %s: %s", path, strerror(errno));
     close(opened);
     uint32_t number = rtep_make(record, sizeof record, file, len, own);
-    if (number != RTEP_DONE) fail(2, "ring file %s is bad (%" PRIu32 "): %s", path, number, reason(number));
+    if (number != RTEP_DONE) fail(2, "ring file %s is bad (%" PRIu32 "): %s", path, number, rtep_reason(number));
 }
 
 /* Waits until a frame, a line or a signal comes, or the time is over; until < 0: no end. True if a line came. */
@@ -336,6 +301,8 @@ int main(int count, char **arguments)
     static char printed[BUFSIZ];
     size_t delay = 0, milliseconds;
     int option;
+    if (rtep_layout() != RTEP_LAYOUT)
+        fail(1, "built for layout %d, and the library has %" PRIu32, RTEP_LAYOUT, rtep_layout());
     while ((option = getopt(count, arguments, "ad:")) != -1) {
         if (option == 'a') all_states = true;
         else if (option != 'd') return 2;
@@ -366,15 +333,15 @@ int main(int count, char **arguments)
         wait_for(begin, false, &open_signals);
         hear_all(); /* and drops: not started */
     }
-    done_or_dropped("start", rtep_start(record, sizeof record, out + HEADER, RTEP_OUT, told));
+    done_or_dropped("start", rtep_start(record, sizeof record, out + HEADER, RTEP_OUT, &told));
     while (!stopped) {
         bool room = queue_lines();
-        bool waiting = record[RTEP_AT_STATE] == RTEP_WAITING;
+        bool waiting = rtep_state(record) == RTEP_WAITING;
         bool lines = wait_for(waiting ? deadline : -1, input_open && room, &open_signals);
         hear_all(); /* first: an acknowledgement that came in time counts, however late this process runs */
-        if (record[RTEP_AT_STATE] == RTEP_WAITING && now() >= deadline)
+        if (rtep_state(record) == RTEP_WAITING && now() >= deadline)
             done_or_dropped("timer",
-                            rtep_timer(record, sizeof record, store, sizeof store, out + HEADER, RTEP_OUT, told));
+                            rtep_timer(record, sizeof record, store, sizeof store, out + HEADER, RTEP_OUT, &told));
         if (lines) read_input();
     }
     return 0;

@@ -50,12 +50,13 @@ static void begin(const char *name)
 /* One frame, a millisecond after the one before, and the line for it. */
 static void frame(uint64_t from, uint64_t to, const uint8_t *packet, size_t octets)
 {
-    uint64_t told[8];
-    uint32_t number = rtep_read(addresses, STATIONS, packet, octets, told);
+    struct rtep_packet p;
+    uint32_t number = rtep_read(addresses, STATIONS, packet, octets, &p);
 
     printf("%" PRIu32, number);
-    for (unsigned i = 0; number == 0 && i < 8; i++)
-        printf(i >= 3 && i <= 5 ? " %012" PRIx64 : " %" PRIu64, told[i]);
+    if (number == RTEP_DONE)
+        printf(" %" PRIu64 " %" PRIu64 " %" PRIu64 " %012" PRIx64 " %012" PRIx64 " %012" PRIx64 " %" PRIu64 " %" PRIu64,
+               p.identifier, p.priority, p.number, p.master, p.failing, p.named, p.channel, p.length);
     printf("\n");
 
     put(frames / 1000, 4, true);
@@ -86,21 +87,21 @@ static unsigned position(uint64_t address)
     return i;
 }
 
-static void sent(unsigned from, const uint8_t *out, const uint64_t told[RTEP_TOLD])
+static void sent(unsigned from, const uint8_t *out, const struct rtep_told *told)
 {
-    if (told[RTEP_TOLD_OCTETS] == 0)
+    if (told->octets == 0)
         return;
-    wire_octets = told[RTEP_TOLD_OCTETS];
+    wire_octets = told->octets;
     wire_from = from;
-    wire_to = position(told[RTEP_TOLD_TO]);
+    wire_to = position(told->to);
     memcpy(wire, out, wire_octets);
-    frame(addresses[from], told[RTEP_TOLD_TO], wire, wire_octets);
+    frame(addresses[from], told->to, wire, wire_octets);
 }
 
 static void step(void)
 {
     uint8_t packet[RTEP_OUT], out[RTEP_OUT];
-    uint64_t told[RTEP_TOLD];
+    struct rtep_told told;
     size_t octets = wire_octets;
     unsigned from = wire_from, to = wire_to;
 
@@ -109,17 +110,17 @@ static void step(void)
         if (i == from || i == down)
             continue;
         CHECK(rtep_frame(records[i], RTEP_RECORD, stores[i], RTEP_STORE, addresses[from], addresses[to], packet, octets,
-                         out, sizeof out, told) == RTEP_DONE);
-        sent(i, out, told);
+                         out, sizeof out, &told) == RTEP_DONE);
+        sent(i, out, &told);
     }
 }
 
 static void timer(unsigned i)
 {
     uint8_t out[RTEP_OUT];
-    uint64_t told[RTEP_TOLD];
-    CHECK(rtep_timer(records[i], RTEP_RECORD, stores[i], RTEP_STORE, out, sizeof out, told) == RTEP_DONE);
-    sent(i, out, told);
+    struct rtep_told told;
+    CHECK(rtep_timer(records[i], RTEP_RECORD, stores[i], RTEP_STORE, out, sizeof out, &told) == RTEP_DONE);
+    sent(i, out, &told);
 }
 
 static void queue(unsigned from, unsigned to, size_t priority, size_t channel, const char *words, size_t octets)
@@ -135,15 +136,14 @@ static void ring(void)
 {
     uint8_t file[2 + 6 * STATIONS] = {0x10 | (STATIONS - 1) >> 2, ((STATIONS - 1) & 3) << 6 | RETRIES << 2};
     uint8_t out[RTEP_OUT];
-    uint64_t told[RTEP_TOLD];
+    struct rtep_told told;
 
     for (unsigned i = 0; i < STATIONS; i++)
-        for (unsigned j = 0; j < 6; j++)
-            file[2 + 6 * i + j] = (uint8_t)(addresses[i] >> 8 * (5 - j));
+        rtep_put_address(file + 2 + 6 * i, addresses[i]);
     for (unsigned i = STATIONS; i-- > 0;) {
         CHECK(rtep_make(records[i], RTEP_RECORD, file, sizeof file, addresses[i]) == RTEP_DONE);
-        CHECK(rtep_start(records[i], RTEP_RECORD, out, sizeof out, told) == RTEP_DONE);
-        sent(i, out, told);
+        CHECK(rtep_start(records[i], RTEP_RECORD, out, sizeof out, &told) == RTEP_DONE);
+        sent(i, out, &told);
     }
     queue(1, 2, 5, 0, "notice ", 100);
     queue(0, 1, 9, 0, "-", 0);
@@ -164,25 +164,25 @@ static void ring(void)
 
 /* ---- Packets by their numbers. ---- */
 
-static size_t written(uint8_t out[LONGEST], const uint64_t numbers[8])
+static size_t written(uint8_t out[LONGEST], const struct rtep_packet *packet)
 {
     uint8_t information[RTEP_PLACE];
-    uint64_t told[2];
-    size_t octets = numbers[0] == 3 ? numbers[7] : 0;
+    struct rtep_written told;
+    size_t octets = packet->length;
 
     for (size_t i = 0; i < octets; i++)
         information[i] = (uint8_t)(i * 7 + 1);
     memset(out, 0, LONGEST);
-    CHECK(rtep_write(addresses, STATIONS, numbers, information, octets, out, LONGEST, told) == RTEP_DONE);
-    return told[0];
+    CHECK(rtep_write(addresses, STATIONS, packet, information, octets, out, LONGEST, &told) == RTEP_DONE);
+    return told.octets;
 }
 
 static void bad_packets(void)
 {
-    const uint64_t token[8] = {1, 4, 500, addresses[0], 0, addresses[1], 0, 0};
-    const uint64_t grant[8] = {2, 4, 501, addresses[0], 0, addresses[1], 0, 0};
-    const uint64_t notice[8] = {3, 4, 502, 0, 0, 0, 3, 10}, longer[8] = {3, 4, 503, 0, 0, 0, 3, 50};
-    const uint64_t longest[8] = {3, 4, 504, 0, 0, 0, 3, 1492};
+    const struct rtep_packet bases[] = {
+        {1, 4, 500, addresses[0], 0, addresses[1], 0, 0}, {2, 4, 501, addresses[0], 0, addresses[1], 0, 0},
+        {3, 4, 502, 0, 0, 0, 3, 10}, {3, 4, 503, 0, 0, 0, 3, 50}, {3, 4, 504, 0, 0, 0, 3, 1492},
+    };
     static const struct {
         unsigned base;      /* which of the five */
         size_t octets;      /* as many octets instead; 0: as many as it has */
@@ -195,17 +195,16 @@ static void bad_packets(void)
         {2, 0, 45, 1, 12},  {2, 0, 18, 1, 12},   {2, 47, 0, 3, 12},   {3, 57, 0, 3, 12},   {3, 59, 0, 3, 12},
         {3, 0, 6, 6, 12},   {2, 0, 7, 39, 12},   {0, 0, 10, 2, 12},
     };
-    const uint64_t *bases[] = {token, grant, notice, longer, longest};
     uint8_t packet[LONGEST];
-    uint64_t told[8];
+    struct rtep_packet told;
 
-    frame(addresses[0], addresses[1], packet, written(packet, longest));
+    frame(addresses[0], addresses[1], packet, written(packet, &bases[4]));
     for (size_t i = 0; i < sizeof cases / sizeof *cases; i++) {
-        size_t octets = written(packet, bases[cases[i].base]);
+        size_t octets = written(packet, &bases[cases[i].base]);
         if (cases[i].octets != 0)
             octets = cases[i].octets;
         packet[cases[i].at] = (uint8_t)cases[i].octet;
-        CHECK(rtep_read(addresses, STATIONS, packet, octets, told) == cases[i].number);
+        CHECK(rtep_read(addresses, STATIONS, packet, octets, &told) == cases[i].number);
         frame(addresses[0], addresses[1], packet, octets);
     }
 }
@@ -222,18 +221,18 @@ static size_t below(size_t bound)
 static void random_packet(void)
 {
     static const size_t lengths[] = {0, 1, 37, 38, 39, 40, 255, 256, 1491, 1492};
-    uint64_t numbers[8] = {1 + below(3), 1 + below(255), below(65536)};
+    struct rtep_packet p = {.identifier = 1 + below(3), .priority = 1 + below(255), .number = below(65536)};
     uint8_t packet[LONGEST];
 
-    if (numbers[0] == 3) {
-        numbers[6] = below(8);
-        numbers[7] = below(2) ? lengths[below(sizeof lengths / sizeof *lengths)] : below(60);
+    if (p.identifier == 3) {
+        p.channel = below(8);
+        p.length = below(2) ? lengths[below(sizeof lengths / sizeof *lengths)] : below(60);
     } else {
-        numbers[3] = addresses[below(STATIONS)];
-        numbers[4] = numbers[0] == 1 && below(2) ? addresses[below(STATIONS)] : 0;
-        numbers[5] = addresses[below(STATIONS)];
+        p.master = addresses[below(STATIONS)];
+        p.failing = p.identifier == 1 && below(2) ? addresses[below(STATIONS)] : 0;
+        p.named = addresses[below(STATIONS)];
     }
-    size_t octets = written(packet, numbers);
+    size_t octets = written(packet, &p);
     for (size_t changes = below(3); changes > 0; changes--)
         packet[below(below(2) ? 24 : octets)] = (uint8_t)(below(2) ? below(8) : below(256));
     switch (below(8)) {

@@ -75,59 +75,53 @@ static void *exactly(size_t octets)
 
 static unsigned state(unsigned which)
 {
-    return ring[which].record[RTEP_AT_STATE];
-}
-
-static uint32_t count(unsigned which, size_t at)
-{
-    const uint8_t *octets = ring[which].record + at;
-    return (uint32_t)octets[0] << 24 | (uint32_t)octets[1] << 16 | (uint32_t)octets[2] << 8 | octets[3];
+    return rtep_state(ring[which].record);
 }
 
 /* What a driver does with what start, frame and timer leave: it sends the frame, and tells its application. */
-static void told_by(unsigned which, const uint8_t *out, const uint64_t *told)
+static void told_by(unsigned which, const uint8_t *out, const struct rtep_told *told)
 {
     struct station *station = &ring[which];
-    if (told[RTEP_TOLD_STRUCK] != 0) {
-        station->struck[position(told[RTEP_TOLD_STRUCK])]++;
+    if (told->struck != 0) {
+        station->struck[position(told->struck)]++;
         strikes++;
     }
-    CHECK(told[RTEP_TOLD_GIVEN_UP] <= RTEP_MESSAGES, "%" PRIu64 " given up", told[RTEP_TOLD_GIVEN_UP]);
-    for (unsigned i = 0; i < told[RTEP_TOLD_GIVEN_UP]; i++) {
-        const uint64_t *message = told + RTEP_TOLD_MESSAGE + i * RTEP_TOLD_EACH;
+    CHECK(told->given_up <= RTEP_MESSAGES, "%" PRIu64 " given up", told->given_up);
+    for (unsigned i = 0; i < told->given_up; i++) {
+        const struct rtep_message *message = &told->messages[i];
         CHECK(station->given_up_count < NOTES, "more given up than ever queued");
-        CHECK(message[RTEP_MESSAGE_PLACE] < RTEP_MESSAGES, "place %" PRIu64, message[RTEP_MESSAGE_PLACE]);
+        CHECK(message->place < RTEP_MESSAGES, "place %" PRIu64, message->place);
         struct note *note = &station->given_up[station->given_up_count++];
-        const uint8_t *payload = station->store + message[RTEP_MESSAGE_PLACE] * RTEP_PLACE;
-        note->other = message[RTEP_MESSAGE_TO];
-        note->priority = (unsigned)message[RTEP_MESSAGE_PRIORITY];
-        note->channel = (unsigned)message[RTEP_MESSAGE_CHANNEL];
-        note->length = (unsigned)message[RTEP_MESSAGE_LENGTH];
+        const uint8_t *payload = rtep_payload(station->store, message);
+        note->other = message->to;
+        note->priority = (unsigned)message->priority;
+        note->channel = (unsigned)message->channel;
+        note->length = (unsigned)message->length;
         note->tag = note->length > 0 ? payload[0] : 0;
         for (unsigned at = 0; at < note->length; at++)
             CHECK(payload[at] == note->tag, "octet %u of a payload given up", at);
         told_given_up++;
     }
-    CHECK(count(which, RTEP_AT_GIVEN_UP) == station->given_up_count, "the record's count of station %u", which);
-    if (told[RTEP_TOLD_OCTETS] != 0) {
+    CHECK(rtep_given_up(station->record) == station->given_up_count, "the record's count of station %u", which);
+    if (told->octets != 0) {
         CHECK(!on_wire, "station %u sends while a frame of %u is on the wire", which, wire.from);
         wire.from = which;
-        wire.to = position(told[RTEP_TOLD_TO]);
-        wire.octets = (size_t)told[RTEP_TOLD_OCTETS];
+        wire.to = position(told->to);
+        wire.octets = (size_t)told->octets;
         CHECK(wire.octets >= RTEP_PACKET_LEAST && wire.octets <= RTEP_PACKET_MOST, "%zu octets", wire.octets);
         memcpy(wire.packet, out, wire.octets);
         on_wire = true;
         frames++;
         informations += wire.packet[0] == 3;
     } else {
-        CHECK(told[RTEP_TOLD_TO] == 0, "an addressee and no frame");
+        CHECK(told->to == 0, "an addressee and no frame");
     }
 }
 
 static void start(unsigned which)
 {
     uint8_t *out = exactly(RTEP_OUT);
-    uint64_t *told = exactly(RTEP_TOLD * sizeof *told);
+    struct rtep_told *told = exactly(sizeof *told);
     uint32_t number = rtep_start(ring[which].record, RTEP_RECORD, out, RTEP_OUT, told);
     CHECK(number == RTEP_DONE, "start of %u gave %u", which, number);
     calls++;
@@ -140,7 +134,7 @@ static void start(unsigned which)
 static uint32_t hear(unsigned which, uint64_t from, uint64_t to, const uint8_t *octets, size_t len)
 {
     uint8_t *packet = exactly(len), *out = exactly(RTEP_OUT);
-    uint64_t *told = exactly(RTEP_TOLD * sizeof *told);
+    struct rtep_told *told = exactly(sizeof *told);
     memcpy(packet, octets, len);
     uint32_t number = rtep_frame(ring[which].record, RTEP_RECORD, ring[which].store, RTEP_STORE,
                                  from, to, packet, len, out, RTEP_OUT, told);
@@ -156,7 +150,7 @@ static uint32_t hear(unsigned which, uint64_t from, uint64_t to, const uint8_t *
 static uint32_t timer(unsigned which)
 {
     uint8_t *out = exactly(RTEP_OUT);
-    uint64_t *told = exactly(RTEP_TOLD * sizeof *told);
+    struct rtep_told *told = exactly(sizeof *told);
     uint32_t number = rtep_timer(ring[which].record, RTEP_RECORD, ring[which].store, RTEP_STORE,
                                  out, RTEP_OUT, told);
     calls++;
@@ -183,17 +177,17 @@ static uint32_t queue(unsigned from, unsigned to, unsigned priority, unsigned ch
 static uint32_t take(unsigned which, unsigned channel, unsigned room_len, struct note *note)
 {
     uint8_t *room = exactly(room_len);
-    uint64_t told[RTEP_TAKEN];
+    struct rtep_taken taken;
     memset(room, 0xEE, room_len);
     uint32_t number = rtep_take(ring[which].record, RTEP_RECORD, ring[which].store, RTEP_STORE,
-                                channel, room, room_len, told);
+                                channel, room, room_len, &taken);
     calls++;
     unsigned length = 0;
     if (number == RTEP_DONE) {
         takes++;
-        length = (unsigned)told[RTEP_TAKEN_LENGTH];
-        *note = (struct note){ told[RTEP_TAKEN_FROM], (unsigned)told[RTEP_TAKEN_PRIORITY],
-                               (unsigned)told[RTEP_TAKEN_CHANNEL], length, length > 0 ? room[0] : 0 };
+        length = (unsigned)taken.length;
+        *note = (struct note){ taken.from, (unsigned)taken.priority, (unsigned)taken.channel, length,
+                               length > 0 ? room[0] : 0 };
         for (unsigned at = 0; at < length; at++)
             CHECK(room[at] == note->tag, "octet %u of a payload taken", at);
     }
@@ -258,21 +252,12 @@ static void until_information(void)
     CHECK(false, "no information frame in 100 turns");
 }
 
-/* The address at an octet of the frame on the wire. */
-static uint64_t address_at(size_t at)
-{
-    uint64_t address = 0;
-    for (size_t octet = at; octet < at + 6; octet++)
-        address = address << 8 | wire.packet[octet];
-    return address;
-}
-
 /* Runs until nobody has a message to send: a token comes back to its master with priority 0. */
 static void until_quiet(void)
 {
     for (unsigned turn = 0; turn < 1000; turn++) {
         step(0);
-        if (on_wire && wire.packet[0] == 1 && wire.packet[1] == 0 && address_at(4) == addresses[wire.to])
+        if (on_wire && wire.packet[0] == 1 && wire.packet[1] == 0 && rtep_address(wire.packet + 4) == addresses[wire.to])
             return;
     }
     CHECK(false, "no quiet in 1,000 turns");
@@ -292,8 +277,7 @@ static void make_all(void)
     file[0] = (uint8_t)(0x10 | (STATIONS - 1) >> 2);
     file[1] = (uint8_t)((STATIONS - 1) << 6 | RETRIES << 2);
     for (unsigned i = 0; i < STATIONS; i++)
-        for (unsigned octet = 0; octet < 6; octet++)
-            file[2 + 6 * i + octet] = (uint8_t)(addresses[i] >> (40 - 8 * octet));
+        rtep_put_address(file + 2 + 6 * i, addresses[i]);
     for (unsigned i = 0; i < STATIONS; i++) {
         ring[i].record = exactly(RTEP_RECORD);
         ring[i].store = exactly(RTEP_STORE);
@@ -304,17 +288,17 @@ static void make_all(void)
         CHECK(state(i) == RTEP_OFFLINE, "station %u is in state %u", i, state(i));
         calls++;
     }
-    CHECK(rtep_make(ring[0].record, RTEP_RECORD - 1, file, 2 + 6 * STATIONS, addresses[0]) == RTEP_NOT_WHOLE, "35");
-    CHECK(rtep_make(ring[0].record, RTEP_RECORD, file, 1, addresses[0]) == RTEP_FILE_LENGTH, "1");
-    CHECK(rtep_make(ring[0].record, RTEP_RECORD, file, 2 + 6 * STATIONS, 1) == RTEP_OWN_ABSENT, "8");
+    CHECK(rtep_make(ring[0].record, RTEP_RECORD - 1, file, 2 + 6 * STATIONS, addresses[0]) == RTEP_REFUSED_NOT_WHOLE, "35");
+    CHECK(rtep_make(ring[0].record, RTEP_RECORD, file, 1, addresses[0]) == RTEP_REFUSED_FILE_LENGTH, "1");
+    CHECK(rtep_make(ring[0].record, RTEP_RECORD, file, 2 + 6 * STATIONS, 1) == RTEP_REFUSED_OWN_ABSENT, "8");
     calls += 3;
     free(file);
 }
 
 static void start_all(void)
 {
-    CHECK(queue(1, 2, 5, 0, 10, 1) == RTEP_NOT_RUNNING, "queue before start");
-    CHECK(timer(1) == RTEP_NOT_RUNNING, "timer before start");
+    CHECK(queue(1, 2, 5, 0, 10, 1) == RTEP_REFUSED_NOT_RUNNING, "queue before start");
+    CHECK(timer(1) == RTEP_REFUSED_NOT_RUNNING, "timer before start");
     for (unsigned i = STATIONS; i-- > 0;) {
         start(i);
         CHECK(on_wire == (i == 0), "station %u", i);
@@ -324,9 +308,9 @@ static void start_all(void)
     CHECK(memcmp(wire.packet, head, 4) == 0, "token, priority 0, number 0");
     CHECK(state(0) == RTEP_WAITING && state(1) == RTEP_IDLE, "after start");
     uint8_t out[RTEP_OUT];
-    uint64_t told[RTEP_TOLD];
-    CHECK(rtep_start(ring[0].record, RTEP_RECORD, out, RTEP_OUT, told) == RTEP_STARTED, "started twice");
-    CHECK(rtep_start(ring[0].record, RTEP_RECORD, out, RTEP_OUT - 1, told) == RTEP_BUFFER, "9");
+    struct rtep_told told;
+    CHECK(rtep_start(ring[0].record, RTEP_RECORD, out, RTEP_OUT, &told) == RTEP_REFUSED_STARTED, "started twice");
+    CHECK(rtep_start(ring[0].record, RTEP_RECORD, out, RTEP_OUT - 1, &told) == RTEP_REFUSED_BUFFER, "9");
     CHECK(timer(1) == RTEP_DONE, "timer when Idle");
     calls += 2;
 }
@@ -355,8 +339,8 @@ static void priority_order(void)
     for (unsigned i = 0; i < count_sent; i++)
         expect_taken(4, sent[i].from, sent[i].priority, 3, sent[i].length, sent[i].tag);
     struct note note;
-    CHECK(take(4, 3, RTEP_PLACE, &note) == RTEP_NO_MESSAGE, "nothing is left");
-    CHECK(take(4, 8, RTEP_PLACE, &note) == RTEP_CHANNEL, "channel 8");
+    CHECK(take(4, 3, RTEP_PLACE, &note) == RTEP_REFUSED_NO_MESSAGE, "nothing is left");
+    CHECK(take(4, 8, RTEP_PLACE, &note) == RTEP_REFUSED_CHANNEL, "channel 8");
 
     /* Received in one order, taken in another: the best first. */
     static const unsigned priorities[] = { 10, 30, 20, 30 };
@@ -389,7 +373,7 @@ static void turns(void)
     master = wire.to;
     first = (master + 1) % STATIONS;
     step(0);
-    CHECK(wire.from == master && wire.packet[0] == 1 && address_at(4) == addresses[master], "a new round");
+    CHECK(wire.from == master && wire.packet[0] == 1 && rtep_address(wire.packet + 4) == addresses[master], "a new round");
     CHECK(queue(master, first, 200, 1, 5, 52) == RTEP_DONE, "queue");
     CHECK(queue(first, master, 100, 1, 6, 53) == RTEP_DONE, "queue");
     until_information();
@@ -412,17 +396,17 @@ static void damaged_frames(void)
     memcpy(packet, wire.packet, wire.octets);
     CHECK(on_wire && wire.octets == 46, "a short frame is on the wire");
     on_wire = false;
-    refused(which, hear(which, from + 1, to, packet, 46), RTEP_FRAME_STATION, record, store);
-    refused(which, hear(which, to, to, packet, 46), RTEP_FRAME_STATION, record, store);
-    refused(which, hear(which, to, addresses[other], packet, 46), RTEP_FRAME_STATION, record, store);
-    refused(which, hear(which, from, to, packet, 45), RTEP_PACKET_SIZE, record, store);
-    refused(which, hear(which, from, to, packet, 1501), RTEP_PACKET_SIZE, record, store);
-    refused(which, hear(which, from, to, packet, 47), RTEP_PACKET_FIELD, record, store);
+    refused(which, hear(which, from + 1, to, packet, 46), RTEP_REFUSED_STATIONS, record, store);
+    refused(which, hear(which, to, to, packet, 46), RTEP_REFUSED_STATIONS, record, store);
+    refused(which, hear(which, to, addresses[other], packet, 46), RTEP_REFUSED_STATIONS, record, store);
+    refused(which, hear(which, from, to, packet, 45), RTEP_REFUSED_PACKET_SIZE, record, store);
+    refused(which, hear(which, from, to, packet, 1501), RTEP_REFUSED_PACKET_SIZE, record, store);
+    refused(which, hear(which, from, to, packet, 47), RTEP_REFUSED_FIELD, record, store);
     packet[0] = 0;
-    refused(which, hear(which, from, to, packet, 46), RTEP_PACKET_IDENTIFIER, record, store);
+    refused(which, hear(which, from, to, packet, 46), RTEP_REFUSED_IDENTIFIER, record, store);
     packet[0] = wire.packet[0];
     packet[45] = 1;
-    refused(which, hear(which, from, to, packet, 46), RTEP_PACKET_FIELD, record, store);
+    refused(which, hear(which, from, to, packet, 46), RTEP_REFUSED_FIELD, record, store);
     on_wire = true;
     free(store);
 }
@@ -469,7 +453,7 @@ static void lost_frames(void)
     expect_taken(3, 1, 50, 2, 700, 60);
     expect_taken(3, 1, 50, 2, 800, 61);
     struct note note;
-    CHECK(take(3, 2, RTEP_PLACE, &note) == RTEP_NO_MESSAGE, "stored once");
+    CHECK(take(3, 2, RTEP_PLACE, &note) == RTEP_REFUSED_NO_MESSAGE, "stored once");
     for (unsigned which = 0; which < STATIONS; which++)
         for (unsigned other = 0; other < STATIONS; other++)
             CHECK(ring[which].struck[other] == 0, "station %u struck %u", which, other);
@@ -484,31 +468,31 @@ static void full_lists(void)
         CHECK(queue(0, 1, 100, 6, 30 + i, 70 + i) == RTEP_DONE, "message %u", i);
     memcpy(record, ring[0].record, RTEP_RECORD);
     memcpy(store, ring[0].store, RTEP_STORE);
-    refused(0, queue(0, 1, 100, 6, 10, 99), RTEP_SEND_LIST_FULL, record, store);
-    refused(0, queue(0, 1, 100, 6, 1493, 99), RTEP_PAYLOAD, record, store);
-    refused(0, queue(0, 1, 100, 8, 10, 99), RTEP_CHANNEL, record, store);
-    refused(0, queue(0, 0, 100, 6, 10, 99), RTEP_DESTINATION, record, store);
-    refused(0, queue(0, 1, 0, 6, 10, 99), RTEP_PRIORITY, record, store);
-    refused(0, queue(0, 1, 256, 6, 10, 99), RTEP_PRIORITY, record, store);
+    refused(0, queue(0, 1, 100, 6, 10, 99), RTEP_REFUSED_LIST_FULL, record, store);
+    refused(0, queue(0, 1, 100, 6, 1493, 99), RTEP_REFUSED_PAYLOAD, record, store);
+    refused(0, queue(0, 1, 100, 8, 10, 99), RTEP_REFUSED_CHANNEL, record, store);
+    refused(0, queue(0, 0, 100, 6, 10, 99), RTEP_REFUSED_DESTINATION, record, store);
+    refused(0, queue(0, 1, 0, 6, 10, 99), RTEP_REFUSED_PRIORITY, record, store);
+    refused(0, queue(0, 1, 256, 6, 10, 99), RTEP_REFUSED_PRIORITY, record, store);
     for (unsigned i = 0; i < 3; i++)
         CHECK(queue(2, 1, 20, 6, 5, 90 + i) == RTEP_DONE, "three more for the same station");
     until_quiet();
-    CHECK(count(1, RTEP_AT_LOST) == 3, "%u lost", count(1, RTEP_AT_LOST));
+    CHECK(rtep_lost(ring[1].record) == 3, "%u lost", rtep_lost(ring[1].record));
 
     /* Too little room: the message stays. */
     memcpy(record, ring[1].record, RTEP_RECORD);
     memcpy(store, ring[1].store, RTEP_STORE);
     struct note note;
-    refused(1, take(1, 6, 29, &note), RTEP_ROOM, record, store);
-    refused(1, take(1, 6, 0, &note), RTEP_ROOM, record, store);
+    refused(1, take(1, 6, 29, &note), RTEP_REFUSED_ROOM, record, store);
+    refused(1, take(1, 6, 0, &note), RTEP_REFUSED_ROOM, record, store);
     for (unsigned i = 0; i < RTEP_MESSAGES; i++)
         expect_taken(1, 0, 100, 6, 30 + i, 70 + i);
-    CHECK(take(1, 6, RTEP_PLACE, &note) == RTEP_NO_MESSAGE, "16 were there");
+    CHECK(take(1, 6, RTEP_PLACE, &note) == RTEP_REFUSED_NO_MESSAGE, "16 were there");
     /* Free places are used again. */
     CHECK(queue(2, 1, 20, 6, 1492, 95) == RTEP_DONE, "queue");
     until_quiet();
     expect_taken(1, 2, 20, 6, 1492, 95);
-    CHECK(count(1, RTEP_AT_LOST) == 3, "no more lost");
+    CHECK(rtep_lost(ring[1].record) == 3, "no more lost");
     free(store);
 }
 
@@ -546,7 +530,7 @@ static void dead_station(void)
     expect_struck(2, 1u << 1);
     CHECK(on_wire && wire.from == 1 && wire.to == 3, "round it");
     CHECK(wire.packet[3] == (uint8_t)(token.packet[3] + 1), "the next number");
-    CHECK(address_at(10) == addresses[2], "it names the dead station as failing");
+    CHECK(rtep_address(wire.packet + 10) == addresses[2], "it names the dead station as failing");
     CHECK(ring[1].given_up_count == 2, "%u given up", ring[1].given_up_count);
     expect_given_up(1, 0, 2, 60, 10, 101);
     expect_given_up(1, 1, 2, 62, 12, 103);
@@ -559,8 +543,8 @@ static void dead_station(void)
     /* Nobody is told twice, though the token that names it went on. */
     expect_struck(2, 1u << 0 | 1u << 1 | 1u << 3 | 1u << 4);
     expect_taken(3, 1, 61, 0, 11, 102);
-    CHECK(queue(0, 2, 5, 0, 1, 1) == RTEP_DESTINATION_STRUCK, "queue to a struck station");
-    CHECK(hear(0, addresses[2], addresses[0], wire.packet, wire.octets) == RTEP_FRAME_STATION, "a struck sender");
+    CHECK(queue(0, 2, 5, 0, 1, 1) == RTEP_REFUSED_STRUCK, "queue to a struck station");
+    CHECK(hear(0, addresses[2], addresses[0], wire.packet, wire.octets) == RTEP_REFUSED_STATIONS, "a struck sender");
 }
 
 /* Station 4 falls silent just as information goes to it: waiting messages are given up, then the one in flight. */
@@ -607,8 +591,8 @@ static void excluded_station(void)
     CHECK(state(3) == RTEP_EXCLUDED, "station 3 is in state %u", state(3));
     expect_struck(3, 1u << 0 | 1u << 1 | 1u << 3);
     CHECK(ring[3].given_up_count == 3, "waiting messages stay");
-    CHECK(queue(3, 1, 2, 0, 5, 122) == RTEP_NOT_RUNNING && timer(3) == RTEP_NOT_RUNNING, "Excluded");
-    CHECK(hear(3, addresses[0], addresses[1], wire.packet, wire.octets) == RTEP_NOT_RUNNING, "Excluded");
+    CHECK(queue(3, 1, 2, 0, 5, 122) == RTEP_REFUSED_NOT_RUNNING && timer(3) == RTEP_REFUSED_NOT_RUNNING, "Excluded");
+    CHECK(hear(3, addresses[0], addresses[1], wire.packet, wire.octets) == RTEP_REFUSED_NOT_RUNNING, "Excluded");
     expect_taken(3, 0, 40, 7, 300, 120);
     ring[3].down = true;
     CHECK(queue(1, 0, 33, 4, 50, 130) == RTEP_DONE, "two go on");
@@ -636,7 +620,7 @@ static void alone(void)
     expect_struck(0, 1u << 1);
     CHECK(ring[1].given_up_count == before + 1, "what waited is given up");
     expect_given_up(1, before, 0, 9, 7, 141);
-    CHECK(timer(1) == RTEP_NOT_RUNNING && queue(1, 0, 9, 0, 1, 1) == RTEP_NOT_RUNNING, "Alone");
+    CHECK(timer(1) == RTEP_REFUSED_NOT_RUNNING && queue(1, 0, 9, 0, 1, 1) == RTEP_REFUSED_NOT_RUNNING, "Alone");
     expect_taken(1, 0, 9, 0, 6, 140);
 }
 
@@ -647,15 +631,33 @@ static void not_whole(void)
     memcpy(record, ring[1].record, RTEP_RECORD);
     memcpy(store, ring[1].store, RTEP_STORE);
     struct note note;
-    refused(1, take(1, 0, RTEP_PLACE, &note), RTEP_NOT_WHOLE, record, store);
-    refused(1, timer(1), RTEP_NOT_WHOLE, record, store);
-    refused(1, queue(1, 0, 1, 0, 0, 0), RTEP_NOT_WHOLE, record, store);
-    refused(1, hear(1, addresses[0], addresses[1], wire.packet, wire.octets), RTEP_NOT_WHOLE, record, store);
+    refused(1, take(1, 0, RTEP_PLACE, &note), RTEP_REFUSED_NOT_WHOLE, record, store);
+    refused(1, timer(1), RTEP_REFUSED_NOT_WHOLE, record, store);
+    refused(1, queue(1, 0, 1, 0, 0, 0), RTEP_REFUSED_NOT_WHOLE, record, store);
+    refused(1, hear(1, addresses[0], addresses[1], wire.packet, wire.octets), RTEP_REFUSED_NOT_WHOLE, record, store);
     free(store);
+}
+
+/* The archive is of this header's layout, by its number and by what it says of each size and place. */
+static void layout(void)
+{
+    CHECK(rtep_layout() == RTEP_LAYOUT, "layout %u", rtep_layout());
+    CHECK(rtep_record_size() == RTEP_RECORD, "record");
+    CHECK(rtep_store_size() == RTEP_STORE && RTEP_STORE == 2 * RTEP_MESSAGES * RTEP_PLACE, "store");
+    CHECK(rtep_place_size() == RTEP_PLACE, "place");
+    CHECK(rtep_out_size() == RTEP_OUT && RTEP_OUT == RTEP_PACKET_MOST, "out");
+    CHECK(rtep_told_size() == sizeof(struct rtep_told), "told");
+    CHECK(rtep_taken_size() == sizeof(struct rtep_taken), "taken");
+    CHECK(rtep_packet_size() == sizeof(struct rtep_packet), "packet");
+    CHECK(rtep_ring_size() == sizeof(struct rtep_ring), "ring");
+    CHECK(rtep_state_at() == RTEP_AT_STATE, "state");
+    CHECK(rtep_lost_at() == RTEP_AT_LOST, "lost");
+    CHECK(rtep_given_up_at() == RTEP_AT_GIVEN_UP, "given up");
 }
 
 int main(void)
 {
+    layout();
     make_all();
     start_all();
     priority_order();
@@ -667,7 +669,7 @@ int main(void)
     dead_receiver();
     excluded_station();
     alone();
-    unsigned lost = count(1, RTEP_AT_LOST);
+    unsigned lost = rtep_lost(ring[1].record);
     not_whole();
     for (unsigned i = 0; i < STATIONS; i++) {
         free(ring[i].record);

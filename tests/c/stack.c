@@ -20,7 +20,12 @@ static ucontext_t home, away;
 static uint8_t file[2 + 6 * MEMBERS], record[RTEP_RECORD], kept[RTEP_RECORD];
 static uint8_t store[RTEP_STORE], packet[RTEP_OUT], out[RTEP_OUT], payload[RTEP_PLACE], room[RTEP_PLACE];
 static size_t packet_len;
-static uint64_t from, to, own, told[RTEP_TOLD], taken[RTEP_TAKEN], members[66], numbers[8], written[2];
+static uint64_t from, to, own;
+static struct rtep_told told;
+static struct rtep_taken taken;
+static struct rtep_ring members;
+static struct rtep_packet numbers;
+static struct rtep_written written;
 static volatile uint32_t number;
 static uint32_t expected;
 
@@ -28,9 +33,9 @@ static void *(*volatile nothing)(void);
 static void *do_nothing(void) { return NULL; }
 
 typedef uint32_t frame_call(uint8_t *, size_t, uint8_t *, size_t, uint64_t, uint64_t, const uint8_t *, size_t,
-                            uint8_t *, size_t, uint64_t *);
+                            uint8_t *, size_t, struct rtep_told *);
 static uint32_t no_frame(uint8_t *a, size_t b, uint8_t *c, size_t d, uint64_t e, uint64_t f, const uint8_t *g, size_t h,
-                         uint8_t *i, size_t j, uint64_t *k)
+                         uint8_t *i, size_t j, struct rtep_told *k)
 {
     (void)a, (void)b, (void)c, (void)d, (void)e, (void)f, (void)g, (void)h, (void)i, (void)j, (void)k;
     return 0;
@@ -40,13 +45,13 @@ static frame_call *volatile a_frame = rtep_frame;
 static void call_nothing(void) { number = nothing() != NULL; }
 static void call_frame(void)
 {
-    number = a_frame(record, sizeof record, store, sizeof store, from, to, packet, packet_len, out, sizeof out, told);
+    number = a_frame(record, sizeof record, store, sizeof store, from, to, packet, packet_len, out, sizeof out, &told);
 }
 static void call_make(void) { number = rtep_make(record, sizeof record, file, sizeof file, own); }
-static void call_start(void) { number = rtep_start(record, sizeof record, out, sizeof out, told); }
+static void call_start(void) { number = rtep_start(record, sizeof record, out, sizeof out, &told); }
 static void call_timer(void)
 {
-    number = rtep_timer(record, sizeof record, store, sizeof store, out, sizeof out, told);
+    number = rtep_timer(record, sizeof record, store, sizeof store, out, sizeof out, &told);
 }
 static void call_queue(void)
 {
@@ -54,13 +59,13 @@ static void call_queue(void)
 }
 static void call_take(void)
 {
-    number = rtep_take(record, sizeof record, store, sizeof store, 3, room, sizeof room, taken);
+    number = rtep_take(record, sizeof record, store, sizeof store, 3, room, sizeof room, &taken);
 }
-static void call_ring(void) { number = rtep_ring(file, sizeof file, members); }
-static void call_read(void) { number = rtep_read(members + 2, MEMBERS, packet, packet_len, numbers); }
+static void call_ring(void) { number = rtep_ring(file, sizeof file, &members); }
+static void call_read(void) { number = rtep_read(members.addresses, MEMBERS, packet, packet_len, &numbers); }
 static void call_write(void)
 {
-    number = rtep_write(members + 2, MEMBERS, numbers, payload, (size_t)numbers[7], out, sizeof out, written);
+    number = rtep_write(members.addresses, MEMBERS, &numbers, payload, numbers.length, out, sizeof out, &written);
 }
 
 static size_t depth(void (*call)(void), uint8_t paint)
@@ -136,19 +141,19 @@ static void must(uint32_t given)
 static void prepare(void)
 {
     must(rtep_make(record, sizeof record, file, sizeof file, address(1)));
-    must(rtep_start(record, sizeof record, out, sizeof out, told));
+    must(rtep_start(record, sizeof record, out, sizeof out, &told));
     for (unsigned i = 0; i < RTEP_MESSAGES - 1; i++) {
         /* A message comes, and the token that the station answers with is acknowledged. */
         information(3 * i);
         must(rtep_frame(record, sizeof record, store, sizeof store, address(2), address(1), packet, packet_len,
-                        out, sizeof out, told));
+                        out, sizeof out, &told));
         short_packet(1, 0, 3 * i + 2, 5, MEMBERS, 5);
         must(rtep_frame(record, sizeof record, store, sizeof store, address(2), address(5), packet, packet_len,
-                        out, sizeof out, told));
+                        out, sizeof out, &told));
     }
     for (unsigned i = 0; i < RTEP_MESSAGES - 1; i++)
         must(rtep_queue(record, sizeof record, store, sizeof store, address(2 + i % 2), 7, 3, payload, sizeof payload));
-    if (record[RTEP_AT_STATE] != RTEP_IDLE) {
+    if (rtep_state(record) != RTEP_IDLE) {
         fprintf(stderr, "stack: the station is not Idle\n");
         exit(1);
     }
@@ -157,7 +162,7 @@ static void prepare(void)
 
 static void heard(void)
 {
-    must(rtep_frame(record, sizeof record, store, sizeof store, from, to, packet, packet_len, out, sizeof out, told));
+    must(rtep_frame(record, sizeof record, store, sizeof store, from, to, packet, packet_len, out, sizeof out, &told));
     memcpy(kept, record, sizeof kept);
 }
 
@@ -205,10 +210,10 @@ int main(void)
     short_packet(2, 3, 1000, 0, MEMBERS, 1);
     row("frame", "a transmit token: information of 1,492 sent", measure(call_frame, many), &most);
     packet[45] = 1;
-    expected = RTEP_PACKET_FIELD;
+    expected = RTEP_REFUSED_FIELD;
     row("frame", "12", measure(call_frame, many), &most);
     from = 1;
-    expected = RTEP_FRAME_STATION;
+    expected = RTEP_REFUSED_STATIONS;
     row("frame", "13", measure(call_frame, many), &most);
     expected = RTEP_DONE;
 
@@ -225,7 +230,7 @@ int main(void)
     short_packet(2, 3, 1000, 0, MEMBERS, 1);
     heard();
     row("timer", "the same information of 1,492 again", measure(call_timer, plain), &most);
-    must(rtep_timer(record, sizeof record, store, sizeof store, out, sizeof out, told));
+    must(rtep_timer(record, sizeof record, store, sizeof store, out, sizeof out, &told));
     memcpy(kept, record, sizeof kept);
     row("timer", "the last one: struck, 8 given up", measure(call_timer, plain), &most);
 

@@ -1,2 +1,3 @@
--- The laws of what a driver is told.
+-- The laws of what a driver is told, and theorems of what it lends.
 pub mod Laws
+pub mod Theorems

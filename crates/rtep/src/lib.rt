@@ -18,6 +18,7 @@ use packet_codec::reading::short_of;
 use packet_codec::writing::write_packet;
 
 pub mod driver;
+pub mod sizes;
 
 // A packet that eight numbers give, or nothing where they are out of their ranges.
 pub enum Made {

@@ -1,0 +1,2 @@
+-- Theorems of what a driver lends.
+pub mod Sizes
