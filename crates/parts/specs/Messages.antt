@@ -11,7 +11,7 @@ use Rattle.parts.specs.declared.list.Flight.{Flight}
 use Rattle.parts.specs.declared.list.Best.{Best}
 use Rattle.parts.specs.declared.list.Parts.{Parts}
 use Rattle.parts.specs.declared.list.Which.{Which}
-use Rattle.parts.specs.declared.list.Which.the-variants.{AnyWaiting, WaitingFor, HasPlace, OnChannel}
+use Rattle.parts.specs.declared.list.Which.the-variants.{AnyWaiting, WaitingFor, WaitingForOthers, HasPlace, OnChannel}
 use Rattle.parts.specs.declared.request.Request.{Request}
 
 -- the messages of a list, in order of acceptance
@@ -57,6 +57,7 @@ flies f m = f .on && eqb (f .place) (m .place)
 unfoldable pub fits : Which → Message → Bool
 fits (AnyWaiting f) m = not (flies f m)
 fits (WaitingFor f p) m = not (flies f m) && eqb (m .other) p
+fits (WaitingForOthers f p) m = not (flies f m) && not (eqb (m .other) p)
 fits (HasPlace p) m = eqb (m .place) p
 fits (OnChannel c) m = eqb (m .channel) c
 

@@ -13,7 +13,7 @@ use Rattle.plain_rules.specs.Refusals.{heardRefusal}
 use Rattle.station.specs.Stations.{stateOf, awaitedOf, withReceives, withLost, quiet, sending, addUpTo, alone, moved, unless}
 use Rattle.station.specs.Round.{sight}
 use Rattle.plain_rules.specs.Round.{reply}
-use Rattle.station.specs.Strike.{strike, nothingGone, giveUpTo, leave, told, stopped}
+use Rattle.station.specs.Strike.{Struck, strike, nothingGone, giveUpTo, leave, told, stopped}
 use Rattle.plain_rules.specs.Heard.{acknowledges, newly}
 use Rattle.parts.specs.declared.moves.State.the-variants.{Idle, Alone, Excluded}
 use Rattle.parts.specs.declared.moves.Event.the-variants.{Heard}
@@ -31,7 +31,6 @@ use Rattle.station.specs.declared.station.Turn.{Turn}
 use Rattle.station.specs.declared.station.Station.{Station}
 use Rattle.station.specs.declared.station.Payload.the-variants.{NoPayload, Of}
 use Rattle.station.specs.declared.station.Answer.{Answer}
-use Rattle.station.specs.declared.rules.strike.Struck.{Struck}
 use Rattle.station.specs.declared.rules.heard.Stored.{Stored}
 
 -- ---- 1. checks

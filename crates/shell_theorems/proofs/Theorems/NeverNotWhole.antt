@@ -22,6 +22,7 @@ use Rattle.parts.specs.declared.frame.Frame.{Frame}
 use Rattle.parts.specs.declared.frame.Dispatch.{Dispatch}
 use Rattle.parts.specs.declared.frame.Dispatch.the-variants.{Nothing, Sent}
 use Rattle.parts.specs.declared.list.Best.{Best}
+use Rattle.station.specs.Strike.{Struck}
 use Rattle.station.specs.Stations.{stateOf, awaitedOf, moved, unless, answered, alone}
 use Rattle.station.specs.Start.{started, startRule}
 use Rattle.station.specs.Heard.{heard, respond, handle, nothingMore, frameRule}
@@ -31,7 +32,6 @@ use Rattle.station.specs.Queue.{accepted, queueRule}
 use Rattle.plain_rules.specs.Refusals.{queueRefusal}
 use Rattle.station.specs.Take.{taking, takeRule}
 use Rattle.plain_rules.specs.Refusals.{takeRefusal}
-use Rattle.station.specs.declared.rules.strike.Struck.{Struck}
 use Rattle.station.specs.declared.station.Station.{Station}
 use Rattle.station.specs.declared.station.Answer.{Answer}
 use Rattle.station_theorems.proofs.Laws.Small.{pick-keeps}

@@ -12,6 +12,7 @@ use Rattle.parts.specs.Choose.{pick}
 use Rattle.parts.specs.Moves.{isIdle, isWaiting, isExcluded}
 use Rattle.parts.specs.Messages.{all, pushed, hasPlace, lowestFree}
 use Rattle.parts.specs.Frames.{noFlight, fit}
+use Rattle.station.specs.Strike.{Struck}
 use Rattle.station.specs.Stations.{stateOf, awaitedOf, alone, addUpTo, withLost, withReceives}
 use Rattle.station.specs.Heard.{isLast, nothingMore, heardMessage, receive, stored, handle}
 use Rattle.wholeness.specs.Whole.{ownSeat, companyGood, messageGood}
@@ -21,7 +22,6 @@ use Rattle.parts.specs.declared.list.Message.{Message}
 use Rattle.parts.specs.declared.frame.InformationFrame.{InformationFrame}
 use Rattle.parts.specs.declared.frame.Frame.{Frame}
 use Rattle.parts.specs.declared.frame.Frame.the-variants.{Token, Transmit, Information}
-use Rattle.station.specs.declared.rules.strike.Struck.{Struck}
 use Rattle.station.specs.declared.rules.heard.Stored.{Stored}
 use Rattle.station.specs.declared.station.Station.{Station}
 use Rattle.station.specs.declared.station.Payload.the-variants.{NoPayload, Of}

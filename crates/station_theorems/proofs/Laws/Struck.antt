@@ -13,7 +13,7 @@ use Rattle.parts.specs.Messages.{all, flies, fits, only, pack, splitBy, best, b
 use Rattle.parts.specs.Live.{liveAt, without}
 use Rattle.parts.specs.Frames.{noFlight, flight}
 use Rattle.station.specs.Stations.{stateOf, awaitedOf, alone, counted}
-use Rattle.station.specs.Strike.{strike, giveUpTo, leave, giveUpAt, giveUpFlight}
+use Rattle.station.specs.Strike.{Loss, strike, giveUpTo, leave, giveUpAt, giveUpFlight}
 use Rattle.wholeness.specs.Whole.{ownSeat, otherSeat, companyGood, listGood, waitsWell, waitersGood, sameMessage, carried, awaitedGood}
 use Rattle.parts.specs.declared.moves.State.{State}
 use Rattle.parts.specs.declared.moves.Event.the-variants.{Heard}
@@ -26,7 +26,6 @@ use Rattle.parts.specs.declared.list.Which.the-variants.{WaitingFor, HasPlace}
 use Rattle.parts.specs.declared.frame.Frame.the-variants.{Token, Transmit, Information}
 use Rattle.parts.specs.declared.frame.Dispatch.{Dispatch}
 use Rattle.parts.specs.declared.frame.Dispatch.the-variants.{Nothing, Sent}
-use Rattle.station.specs.declared.rules.strike.Loss.{Loss}
 use Rattle.station.specs.declared.station.Station.{Station}
 use Rattle.parts.proofs.Laws.Choose.{pick-true, pick-false}
 use Rattle.parts.proofs.Laws.Messages.{only-length}

@@ -11,7 +11,7 @@ use Rattle.parts.specs.Choose.{pick}
 use Rattle.parts.specs.Live.{liveAt, without}
 use Rattle.parts.specs.Messages.{all, none, blank, pack, pushed, splitBy}
 use Rattle.station.specs.Stations.{withSends, addUpTo}
-use Rattle.station.specs.Strike.{strike, nothingGone, giveUpTo, giveUpAt, giveUpFlight, told}
+use Rattle.station.specs.Strike.{Loss, strike, nothingGone, giveUpTo, giveUpAt, giveUpFlight, told}
 use Rattle.plain_rules.specs.Heard.{newly}
 use Rattle.parts.specs.declared.live.Live.{Live}
 use Rattle.parts.specs.declared.list.Message.{Message}
@@ -19,7 +19,6 @@ use Rattle.parts.specs.declared.list.Messages.{Messages}
 use Rattle.parts.specs.declared.frame.Whom.{Whom}
 use Rattle.parts.specs.declared.frame.Whom.the-variants.{Nobody, Member}
 use Rattle.station.specs.declared.station.Station.{Station}
-use Rattle.station.specs.declared.rules.strike.Loss.{Loss}
 use Rattle.parts.proofs.Laws.Choose.{pick-true, pick-false}
 
 -- what holds of both choices holds of the one picked

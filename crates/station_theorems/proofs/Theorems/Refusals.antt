@@ -8,6 +8,7 @@ use lib.Dec.{eqb, ltb}
 use Rattle.parts.specs.Choose.{pick}
 use Rattle.parts.specs.Messages.{none}
 use Rattle.parts.specs.Frames.{numberOf}
+use Rattle.station.specs.Strike.{Struck}
 use Rattle.station.specs.Stations.{stateOf, awaitedOf, answered, moved, unless, alone}
 use Rattle.station.specs.Start.{started, startRule}
 use Rattle.station.specs.Heard.{nothingMore, handle, respond, heard, frameRule}
@@ -22,7 +23,6 @@ use Rattle.parts.specs.declared.frame.Frame.{Frame}
 use Rattle.parts.specs.declared.frame.Dispatch.{Dispatch}
 use Rattle.parts.specs.declared.frame.Dispatch.the-variants.{Nothing, Sent}
 use Rattle.parts.specs.declared.request.Request.{Request}
-use Rattle.station.specs.declared.rules.strike.Struck.{Struck}
 use Rattle.station.specs.declared.station.Station.{Station}
 use Rattle.station.specs.declared.station.Payload.the-variants.{NoPayload}
 use Rattle.station.specs.declared.station.Answer.{Answer}

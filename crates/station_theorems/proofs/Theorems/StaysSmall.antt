@@ -14,7 +14,7 @@ use Rattle.parts.specs.Frames.{numberOf, next, failingOf, flight}
 use Rattle.station.specs.Stations.{awaitedOf, made, withSends, withLive, quiet, sending, head, answered, moved, unless, alone}
 use Rattle.plain_rules.specs.Round.{bidOf, ownBid, forward, startRound}
 use Rattle.station.specs.Start.{started, startRule}
-use Rattle.station.specs.Strike.{strike, giveUpTo, giveUpAt, giveUpFlight, leave, messageAt, nothingGone, told, stopped}
+use Rattle.station.specs.Strike.{Loss, Struck, strike, giveUpTo, giveUpAt, giveUpFlight, leave, messageAt, nothingGone, told, stopped}
 use Rattle.plain_rules.specs.Heard.{newly}
 use Rattle.station.specs.Heard.{acknowledged, landed, acknowledge, strikeOther, strikeHeard, failed, nothingMore, heardMessage, receive, stored, handle, respond, heard, frameRule}
 use Rattle.station.specs.Timer.{unanswered, afterStrike, silence, onTimer, timerRule}
@@ -34,8 +34,6 @@ use Rattle.parts.specs.declared.frame.Dispatch.the-variants.{Nothing, Sent}
 use Rattle.parts.specs.declared.moves.Event.{Event}
 use Rattle.parts.specs.declared.moves.State.{State}
 use Rattle.parts.specs.declared.moves.State.the-variants.{Idle, Alone, Excluded}
-use Rattle.station.specs.declared.rules.strike.Loss.{Loss}
-use Rattle.station.specs.declared.rules.strike.Struck.{Struck}
 use Rattle.station.specs.declared.rules.heard.Stored.{Stored}
 use Rattle.plain_rules.specs.declared.round.Sight.{Sight}
 use Rattle.plain_rules.specs.declared.round.Bid.{Bid}
