@@ -1,6 +1,7 @@
 -- The record's layout: the place of each field, said once. A field begins where the one before it ends: at that one's place plus its
 -- width, so that no number but the widths stands here.
 use Prim.Native.Nat.{ℕ, _+_, _*_}
+use Rattle.codec.specs.Sizes.{mostInformation}
 
 -- ---- in an awaited frame, from its first octet on
 
@@ -118,7 +119,7 @@ recordLength = receivesAt + listLength
 -- ---- the store
 
 abbrev pub placeLength : ℕ
-placeLength = 1492
+placeLength = mostInformation
 
 -- receive places follow the 16 send places
 abbrev pub receivePlaces : ℕ

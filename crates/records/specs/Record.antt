@@ -7,9 +7,7 @@ use lib.Dec.{eqb}
 use lib.ListN.{length, take}
 use Rattle.codec.specs.Order.{firstOf}
 use Rattle.codec.specs.Octets.{octets, numberAt, zeros, firstNonzero}
-use Rattle.codec.specs.Ring.{count, readRing, noRing}
-use Rattle.codec.specs.declared.ring.Ring.{Ring}
-use Rattle.codec.specs.declared.ring.RingRead.{RingRead}
+use Rattle.codec.specs.Ring.{Ring, RingRead, count, readRing, noRing}
 use Rattle.parts.specs.Choose.{allOf}
 use Rattle.station.specs.Stations.{made}
 use Rattle.wholeness.specs.Whole.{whole}

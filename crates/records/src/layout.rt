@@ -70,7 +70,7 @@ pub const RECEIVES: usize = SENDS + LIST;
 pub const RECORD: usize = RECEIVES + LIST;
 
 // The store: 16 send places, then 16 receive places.
-pub const PLACE: usize = 1492;
+pub const PLACE: usize = codec::sizes::INFORMATION;
 
 pub const RECEIVE_PLACES: usize = 16;
 
