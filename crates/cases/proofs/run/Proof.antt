@@ -34,7 +34,7 @@ loop-less c =
     let l = c .before .before .before .before .loop in
     let f = c .before .feed in
     let t = c .before .before .before .loop-test .taken in
-    omega (arith, t, feed-further (c .before .before .before .before .before .before .args .script .now) (l .i) (c .before .before .none .result) (f .result) (f .ensures) t)
+    omega (arith, t, feed-further (c .before .before .before .before .before .before .before .args .script .now) (l .i) (c .before .before .none .result) (f .result) (f .ensures) t)
 
 loop-again : tie.Need-loop-again Inv-loop μ-loop
 loop-again c = tt

@@ -159,7 +159,7 @@ fn token(out: &mut [u8; SHORTEST], identifier: u8, priority: u8, number: u16, ad
 }
 
 /// Writes a packet to the start of `out` and gives its octets.
-#[inline(always)]
+#[inline]
 pub fn write(packet: Packet<u64, u64>, information: &[u8], out: &mut [u8]) -> usize {
     let short = out.first_chunk_mut::<SHORTEST>().unwrap();
     match packet {

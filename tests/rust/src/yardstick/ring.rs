@@ -1,7 +1,8 @@
 //! A fault-free ring of the yardstick's stations, in place.
 
+use super::codec::Ring as Addresses;
 use super::station::record::{Frame, Kind, Message, Station};
-use super::station::rules::{Answer, Heard};
+use super::station::rules::Heard;
 use super::station::{MESSAGES, PLACE};
 
 /// The table of stations, and the one frame on the wire with its sender.
@@ -9,17 +10,15 @@ pub struct Ring {
     stations: Vec<Station>,
     pub from: u8,
     pub wire: Frame,
-    /// Lent to every call; it has nothing in it between them.
-    answer: Answer,
 }
 
 impl Ring {
     /// Stations start from N−1 down to 0; only station 0 sends. R is 1.
     pub fn start(members: u8) -> Ring {
         let mut stations: Vec<_> =
-            (0..members).map(|own| Station::new(members.into(), 1, own)).collect();
+            (0..members).map(|own| Station::new(addresses(members.into()), own)).collect();
         let sent = stations.iter_mut().rev().filter_map(|station| station.start().frame).last();
-        Ring { stations, from: 0, wire: sent.expect("station 0 sends"), answer: Answer::nothing() }
+        Ring { stations, from: 0, wire: sent.expect("station 0 sends") }
     }
 
     /// Hands the frame to every other station and puts the addressee's new frame on the wire.
@@ -27,12 +26,11 @@ impl Ring {
         let (from, to) = (self.from, self.wire.to);
         let heard = heard(&self.wire);
         for station in &mut self.stations {
-            if station.own != from {
-                station.frame(from, to, &heard, &mut self.answer);
+            if station.own != from && !station.is_bystander(to, &heard) {
+                if let Some(frame) = station.frame(from, to, &heard).frame {
+                    (self.from, self.wire) = (to, frame);
+                }
             }
-        }
-        if let Some(frame) = self.answer.frame.take() {
-            (self.from, self.wire) = (to, frame);
         }
     }
 
@@ -62,6 +60,12 @@ impl Ring {
         station.send.join(to as u8, priority, channel as u8, length);
         Ok(())
     }
+}
+
+/// Member i has address i+1; R is 1.
+fn addresses(members: usize) -> Addresses {
+    let address = |place: usize| if place < members { place as u64 + 1 } else { 0 };
+    Addresses { members, retry_limit: 1, addresses: std::array::from_fn(address) }
 }
 
 /// A frame as the others hear it.

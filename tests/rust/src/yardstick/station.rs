@@ -98,13 +98,13 @@ pub fn start(record: &mut [u8], out: &mut [u8], told: &mut [u64; 84]) -> u32 {
         if out.len() < OUT {
             return Err(9);
         }
-        let (record, ring, mut station) = Station::read(record).ok_or(35u32)?;
+        let (record, mut station) = Station::read(record).ok_or(35u32)?;
         if station.state != State::Offline {
             return Err(23);
         }
         let answer = station.start();
         station.write(record);
-        tell(&ring, &answer, &[], out, told);
+        tell(&station.ring, &answer, &[], out, told);
         Ok(())
     })())
 }
@@ -124,28 +124,27 @@ pub fn frame(
         if store.len() != STORE || out.len() < OUT {
             return Err(9);
         }
-        let (record, ring, mut station) = Station::read(record).ok_or(35u32)?;
+        let (record, mut station) = Station::read(record).ok_or(35u32)?;
         if !matches!(station.state, State::Idle | State::Waiting) {
             return Err(22);
         }
-        let from = ring.position(from).ok_or(13u32)?;
-        let to = ring.position(to).ok_or(13u32)?;
+        let from = station.ring.position(from).ok_or(13u32)?;
+        let to = station.ring.position(to).ok_or(13u32)?;
         if from == to || from == station.own || !station.live[usize::from(from)] {
             return Err(13);
         }
-        let member = |address| ring.position(address);
+        let member = |address| station.ring.position(address);
         let heard = codec::read(packet, member, |address| match address {
             0 => Some(None),
             address => member(address).map(Some),
         })?;
-        let mut answer = Answer::nothing();
-        station.frame(from, to, &heard, &mut answer);
+        let answer = station.frame(from, to, &heard);
         if let Some(message) = answer.stored {
             store[receive_place(message.place, message.length)]
                 .copy_from_slice(codec::information(packet, message.length));
         }
         station.write(record);
-        tell(&ring, &answer, store, out, told);
+        tell(&station.ring, &answer, store, out, told);
         Ok(())
     })())
 }
@@ -156,14 +155,14 @@ pub fn timer(record: &mut [u8], store: &[u8], out: &mut [u8], told: &mut [u64; 8
         if store.len() != STORE || out.len() < OUT {
             return Err(9);
         }
-        let (record, ring, mut station) = Station::read(record).ok_or(35u32)?;
+        let (record, mut station) = Station::read(record).ok_or(35u32)?;
         let answer = match (station.state, station.awaited) {
             (State::Waiting, Some(frame)) => station.timer(frame),
             (State::Idle, _) => Answer::nothing(),
             _ => return Err(22),
         };
         station.write(record);
-        tell(&ring, &answer, store, out, told);
+        tell(&station.ring, &answer, store, out, told);
         Ok(())
     })())
 }
@@ -181,14 +180,14 @@ pub fn queue(
         if store.len() != STORE {
             return Err(9);
         }
-        let (record, ring, mut station) = Station::read(record).ok_or(35u32)?;
+        let (record, mut station) = Station::read(record).ok_or(35u32)?;
         if !matches!(station.state, State::Idle | State::Waiting) {
             return Err(22);
         }
         if !(1..=255).contains(&priority) {
             return Err(14);
         }
-        let to = match ring.position(to) {
+        let to = match station.ring.position(to) {
             Some(to) if to != station.own => to,
             _ => return Err(15),
         };
@@ -224,7 +223,7 @@ pub fn take(
         if store.len() != STORE {
             return Err(9);
         }
-        let (record, ring, mut station) = Station::read(record).ok_or(35u32)?;
+        let (record, mut station) = Station::read(record).ok_or(35u32)?;
         if channel > 7 {
             return Err(17);
         }
@@ -238,7 +237,7 @@ pub fn take(
         room[..length].copy_from_slice(&store[receive_place(message.place, message.length)]);
         station.write(record);
         *told = [
-            ring.addresses[usize::from(message.other)],
+            station.ring.addresses[usize::from(message.other)],
             message.priority.into(),
             message.channel.into(),
             message.length.into(),

@@ -241,15 +241,14 @@ pub struct Station {
     pub own: u8,
     pub state: State,
     pub retries: u8,
-    pub retry_limit: u8,
     pub handled: Option<u16>,
     pub awaited: Option<Frame>,
-    pub members: usize,
     pub live: [bool; 64],
     pub lost: u32,
     pub given_up: u32,
     pub send: List,
     pub receive: List,
+    pub ring: Ring,
 }
 
 /// Writes the record of a station that is made.
@@ -262,12 +261,11 @@ pub fn make(record: &mut [u8; RECORD], file: &[u8], own: u8, members: usize) {
 
 impl Station {
     /// A station that is made.
-    pub fn new(members: usize, retry_limit: u8, own: u8) -> Station {
+    pub fn new(ring: Ring, own: u8) -> Station {
         let mut live = [false; 64];
-        live[..members].fill(true);
+        live[..ring.members].fill(true);
         Station {
-            members,
-            retry_limit,
+            ring,
             own,
             state: State::Offline,
             retries: 0,
@@ -281,8 +279,8 @@ impl Station {
         }
     }
 
-    /// The station of a record, if it is whole, and its ring.
-    pub fn read(record: &mut [u8]) -> Option<(&mut [u8; RECORD], Ring, Station)> {
+    /// The station of a record, if it is whole.
+    pub fn read(record: &mut [u8]) -> Option<(&mut [u8; RECORD], Station)> {
         let record: &mut [u8; RECORD] = record.try_into().ok()?;
         let members = usize::from(u16::from_be_bytes([record[0], record[1]]) >> 6 & 63) + 1;
         let (file, after) = record[..RING].split_at(2 + 6 * members);
@@ -352,8 +350,7 @@ impl Station {
             return None;
         }
         let station = Station {
-            members,
-            retry_limit: ring.retry_limit,
+            ring,
             own,
             state,
             retries,
@@ -365,7 +362,7 @@ impl Station {
             send,
             receive,
         };
-        Some((record, ring, station))
+        Some((record, station))
     }
 
     /// Writes back what can change.

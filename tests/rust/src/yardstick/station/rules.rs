@@ -25,7 +25,7 @@ impl Station {
     /// The next live station after this one; this one if no other is live.
     fn successor(&self) -> u8 {
         let own = usize::from(self.own);
-        let next = (own + 1..self.members).chain(0..own).find(|&position| self.live[position]);
+        let next = (own + 1..self.ring.members).chain(0..own).find(|&position| self.live[position]);
         next.unwrap_or(own) as u8
     }
 
@@ -118,17 +118,15 @@ impl Station {
         answer
     }
 
-    /// A heard frame. The answer that is handed in has nothing in it. A bystander that waits for nothing
-    /// is passed by.
+    /// Whether a frame passes it by: one to another, with nobody failing, while it waits for nothing.
     #[inline]
-    pub fn frame(&mut self, from: u8, to: u8, heard: &Heard, answer: &mut Answer) {
+    pub fn is_bystander(&self, to: u8, heard: &Heard) -> bool {
         let fails = matches!(heard, Heard::Token { failing: Some(_), .. });
-        if to == self.own || fails || self.awaited.is_some() {
-            self.hear(from, to, heard, answer);
-        }
+        to != self.own && !fails && self.awaited.is_none()
     }
 
-    fn hear(&mut self, from: u8, to: u8, heard: &Heard, answer: &mut Answer) {
+    pub fn frame(&mut self, from: u8, to: u8, heard: &Heard) -> Answer {
+        let mut answer = Answer::nothing();
         if let Some(frame) = self.awaited {
             if from == frame.to && heard.number() == frame.number.wrapping_add(1) {
                 self.state = State::Idle;
@@ -136,20 +134,20 @@ impl Station {
             }
         }
         if let Heard::Token { failing: Some(failing), .. } = *heard {
-            self.strike(failing, answer);
+            self.strike(failing, &mut answer);
             if failing == self.own {
-                self.stop(State::Excluded, answer);
-                return;
+                self.stop(State::Excluded, &mut answer);
+                return answer;
             }
-            self.give_up_to(failing, answer);
+            self.give_up_to(failing, &mut answer);
             if self.successor() == self.own {
-                self.stop(State::Alone, answer);
-                return;
+                self.stop(State::Alone, &mut answer);
+                return answer;
             }
-            self.count_given_up(answer);
+            self.count_given_up(&answer);
         }
         if to != self.own || self.handled == Some(heard.number()) || self.state == State::Waiting {
-            return;
+            return answer;
         }
         self.handled = Some(heard.number());
         let number = heard.number().wrapping_add(1);
@@ -190,13 +188,14 @@ impl Station {
                 self.round(number, None)
             }
         };
-        self.wait_for(frame, answer);
+        self.wait_for(frame, &mut answer);
+        answer
     }
 
     /// The timer while the station waits for this frame's acknowledgement.
     pub fn timer(&mut self, frame: Frame) -> Answer {
         let mut answer = Answer::nothing();
-        if self.retries < self.retry_limit {
+        if self.retries < self.ring.retry_limit {
             self.retries += 1;
             answer.frame = Some(frame);
             return answer;
