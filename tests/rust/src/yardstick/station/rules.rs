@@ -1,8 +1,11 @@
 //! The rules: what a station does and tells.
 
-use super::packet::{Heard, HeardKind};
 use super::record::{Frame, Kind, List, Message, State, Station};
 use super::MESSAGES;
+use crate::yardstick::codec::Packet;
+
+/// A packet that was heard.
+pub type Heard = Packet<u8, Option<u8>>;
 
 /// What a call sends and tells, and the received message whose payload goes into the store.
 pub struct Answer {
@@ -22,7 +25,7 @@ impl Station {
     /// The next live station after this one; this one if no other is live.
     fn successor(&self) -> u8 {
         let own = usize::from(self.own);
-        let next = (own + 1..self.ring.members).chain(0..own).find(|&position| self.live[position]);
+        let next = (own + 1..self.members).chain(0..own).find(|&position| self.live[position]);
         next.unwrap_or(own) as u8
     }
 
@@ -115,34 +118,43 @@ impl Station {
         answer
     }
 
-    pub fn frame(&mut self, from: u8, to: u8, heard: &Heard) -> Answer {
-        let mut answer = Answer::nothing();
+    /// A heard frame. The answer that is handed in has nothing in it. A bystander that waits for nothing
+    /// is passed by.
+    #[inline]
+    pub fn frame(&mut self, from: u8, to: u8, heard: &Heard, answer: &mut Answer) {
+        let fails = matches!(heard, Heard::Token { failing: Some(_), .. });
+        if to == self.own || fails || self.awaited.is_some() {
+            self.hear(from, to, heard, answer);
+        }
+    }
+
+    fn hear(&mut self, from: u8, to: u8, heard: &Heard, answer: &mut Answer) {
         if let Some(frame) = self.awaited {
-            if from == frame.to && heard.number == frame.number.wrapping_add(1) {
+            if from == frame.to && heard.number() == frame.number.wrapping_add(1) {
                 self.state = State::Idle;
                 self.land();
             }
         }
-        if let HeardKind::Token { failing: Some(failing), .. } = heard.kind {
-            self.strike(failing, &mut answer);
+        if let Heard::Token { failing: Some(failing), .. } = *heard {
+            self.strike(failing, answer);
             if failing == self.own {
-                self.stop(State::Excluded, &mut answer);
-                return answer;
+                self.stop(State::Excluded, answer);
+                return;
             }
-            self.give_up_to(failing, &mut answer);
+            self.give_up_to(failing, answer);
             if self.successor() == self.own {
-                self.stop(State::Alone, &mut answer);
-                return answer;
+                self.stop(State::Alone, answer);
+                return;
             }
-            self.count_given_up(&answer);
+            self.count_given_up(answer);
         }
-        if to != self.own || self.handled == Some(heard.number) || self.state == State::Waiting {
-            return answer;
+        if to != self.own || self.handled == Some(heard.number()) || self.state == State::Waiting {
+            return;
         }
-        self.handled = Some(heard.number);
-        let number = heard.number.wrapping_add(1);
-        let frame = match heard.kind {
-            HeardKind::Token { priority, master, named, .. } if master == self.own => {
+        self.handled = Some(heard.number());
+        let number = heard.number().wrapping_add(1);
+        let frame = match *heard {
+            Heard::Token { priority, master, named, .. } if master == self.own => {
                 if priority == 0 {
                     self.round(number, None)
                 } else if named == self.own {
@@ -154,7 +166,7 @@ impl Station {
                     self.round(number, None)
                 }
             }
-            HeardKind::Token { priority, master, failing, named } => {
+            Heard::Token { priority, master, failing, named, .. } => {
                 if self.is_live(master) {
                     let own = (self.head_priority(), self.own);
                     let mut bid = (priority, named);
@@ -167,8 +179,8 @@ impl Station {
                     self.round(number, None)
                 }
             }
-            HeardKind::Transmit => self.send_head(number),
-            HeardKind::Information { priority, channel, length } => {
+            Heard::Transmit { .. } => self.send_head(number),
+            Heard::Information { priority, channel, length, .. } => {
                 if self.receive.messages().len() < MESSAGES {
                     let place = self.receive.join(from, priority, channel, length);
                     answer.stored = Some(Message { other: from, priority, channel, place, length });
@@ -178,14 +190,13 @@ impl Station {
                 self.round(number, None)
             }
         };
-        self.wait_for(frame, &mut answer);
-        answer
+        self.wait_for(frame, answer);
     }
 
     /// The timer while the station waits for this frame's acknowledgement.
     pub fn timer(&mut self, frame: Frame) -> Answer {
         let mut answer = Answer::nothing();
-        if self.retries < self.ring.retry_limit {
+        if self.retries < self.retry_limit {
             self.retries += 1;
             answer.frame = Some(frame);
             return answer;
