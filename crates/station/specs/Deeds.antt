@@ -6,7 +6,7 @@ use Rattle.parts.specs.Messages.{none, pushed, splitBy, best}
 use Rattle.parts.specs.Live.{without}
 use Rattle.parts.specs.Frames.{noFlight}
 use Rattle.plain_rules.specs.Heard.{newly}
-use Rattle.station.specs.Stations.{withTurn, addUpTo}
+use Rattle.station.specs.Stations.{stationBy, withTurn, addUpTo}
 use Rattle.station.specs.Heard.{receive}
 use Rattle.parts.specs.declared.live.Live.{Live}
 use Rattle.parts.specs.declared.list.Messages.{Messages}
@@ -111,17 +111,12 @@ struckBy l (Itself p) = newly l p
 -- the station once messages have left
 abbrev pub touched : Station → Verdict → Parts → Station
 touched s v d =
-    record {
-      n = s .n;
-      limit = s .limit;
-      own = s .own;
-      live = liveAfter (s .live) (v .deeds .blow);
-      sends = d .kept;
-      receives = s .receives;
-      turn = v .turn;
-      lost = s .lost;
-      givenup = addUpTo (s .givenup) (d .gone .len);
-    }
+    stationBy (s .n) (s .limit) (s .own)
+    (liveAfter (s .live) (v .deeds .blow))
+    (d .kept)
+    (s .receives)
+    (v .turn)
+    (record { lost = s .counts .lost; givenup = addUpTo (s .counts .givenup) (d .gone .len) })
 
 unfoldable pub storing : Station → Payload → Stored
 storing s NoPayload = record { station = s; payload = NoPayload }

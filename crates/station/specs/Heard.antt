@@ -100,7 +100,7 @@ heardMessage s from i =
 unfoldable pub receive : Station → Message → Stored
 receive s m =
     pick (leb 16 (s .receives .len))
-    (record { station = withLost s (addUpTo (s .lost) 1); payload = NoPayload })
+    (record { station = withLost s (addUpTo (s .counts .lost) 1); payload = NoPayload })
     (record { station = withReceives s (pushed (s .receives) m); payload = Of m })
 
 -- who stores a heard frame: the addressee, if it is information

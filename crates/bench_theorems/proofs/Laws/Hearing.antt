@@ -65,7 +65,7 @@ receive-storing s m = go (leb 16 (s .receives .len))
     go : (b : Bool)
         → Storing s
         (pick {A = Stored} b
-        (record { station = withLost s (addUpTo (s .lost) 1); payload = NoPayload })
+        (record { station = withLost s (addUpTo (s .counts .lost) 1); payload = NoPayload })
         (record { station = withReceives s (pushed (s .receives) m); payload = Of m })
         .station)
     go true = record { same-n = refl; same-limit = refl; same-own = refl; same-live = refl; same-sends = refl; same-turn = refl }

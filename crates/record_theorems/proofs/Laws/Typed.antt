@@ -84,5 +84,5 @@ pub record Typed (s : Station) : Type 0 where
   pub sends : TypedList (s .sends)
   pub receives : TypedList (s .receives)
   pub turn : TypedTurn (s .turn)
-  pub lost-u32 : s .lost < 4294967296
-  pub givenup-u32 : s .givenup < 4294967296
+  pub lost-u32 : s .counts .lost < 4294967296
+  pub givenup-u32 : s .counts .givenup < 4294967296

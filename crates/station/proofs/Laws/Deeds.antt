@@ -10,7 +10,7 @@ use Rattle.parts.specs.Messages.{none, pushed, splitBy, best, flies, fits}
 use Rattle.parts.specs.Live.{without, successor}
 use Rattle.parts.specs.Frames.{flight, noFlight}
 use Rattle.plain_rules.specs.Heard.{newly}
-use Rattle.station.specs.Stations.{withTurn, withSends, withLive, withReceives, withLost, awaitedOf, quiet, quietTurn, addUpTo, counted, alone, head}
+use Rattle.station.specs.Stations.{stationBy, withTurn, withSends, withLive, withReceives, withLost, awaitedOf, quiet, quietTurn, addUpTo, counted, alone, head}
 use Rattle.station.specs.Round.{sight}
 use Rattle.station.specs.Strike.{Loss, Struck, strike, nothingGone, giveUpTo, leave, giveUpAt, giveUpFlight, told, stopped}
 use Rattle.station.specs.Heard.{acknowledged, landed, acknowledge, strikeOther, strikeHeard, failed, receive}
@@ -81,17 +81,9 @@ given-up-both s p = ap giveUpFlight (given-up-to s p) ∙ given-up-flight s (spl
 abbrev pub struckOf : Station → Blow → Turn → Parts → Struck
 struckOf s b t d =
     record {
-      station = record {
-        n = s .n;
-        limit = s .limit;
-        own = s .own;
-        live = liveAfter (s .live) b;
-        sends = d .kept;
-        receives = s .receives;
-        turn = t;
-        lost = s .lost;
-        givenup = addUpTo (s .givenup) (d .gone .len);
-      };
+      station =
+          stationBy (s .n) (s .limit) (s .own) (liveAfter (s .live) b) (d .kept) (s .receives) t
+          (record { lost = s .counts .lost; givenup = addUpTo (s .counts .givenup) (d .gone .len) });
       struck = struckBy (s .live) b;
       gone = d .gone;
     }
@@ -136,7 +128,7 @@ module _ (s : Station) (p : ℕ) where
 
 pub fails : (s : Station) (w : Whom) → failed s w ≡ hitBy s (blowOf (s .live) (s .n) (s .own) w)
 unfolding failed blowOf closed leaving liveAfter struckBy
-fails s Nobody = rw (add-none (s .givenup))
+fails s Nobody = rw (add-none (s .counts .givenup))
 fails s (Member p) = hits s p
 
 -- the last timer
@@ -176,17 +168,17 @@ module _ (s : Station) (m : Message) where
     where
       go : (b : Bool)
           → pick {A = Stored} b
-          (record { station = withLost (withTurn s t) (addUpTo (s .lost) 1); payload = NoPayload })
+          (record { station = withLost (withTurn s t) (addUpTo (s .counts .lost) 1); payload = NoPayload })
           (record { station = withReceives (withTurn s t) (pushed (s .receives) m); payload = Of m })
           ≡ record {
             station = withTurn
                 (pick {A = Stored} b
-                (record { station = withLost s (addUpTo (s .lost) 1); payload = NoPayload })
+                (record { station = withLost s (addUpTo (s .counts .lost) 1); payload = NoPayload })
                 (record { station = withReceives s (pushed (s .receives) m); payload = Of m })
                 .station)
                 t;
             payload = pick {A = Stored} b
-                (record { station = withLost s (addUpTo (s .lost) 1); payload = NoPayload })
+                (record { station = withLost s (addUpTo (s .counts .lost) 1); payload = NoPayload })
                 (record { station = withReceives s (pushed (s .receives) m); payload = Of m })
                 .payload;
           }
@@ -200,7 +192,7 @@ module _ (s : Station) (m : Message) where
       go : (b : Bool)
           → sight
           (pick {A = Stored} b
-          (record { station = withLost s (addUpTo (s .lost) 1); payload = NoPayload })
+          (record { station = withLost s (addUpTo (s .counts .lost) 1); payload = NoPayload })
           (record { station = withReceives s (pushed (s .receives) m); payload = Of m })
           .station)
           ≡ sight s
@@ -213,42 +205,26 @@ does-nothing : (s : Station) (v : Verdict) → untouched (v .deeds) ≡ true →
 unfolding fully untouched landing leaving liveAfter struckBy storing pick
 does-nothing s v = go (v .deeds .lands .on) (v .deeds .blow) (v .deeds .stores)
   where
+    parts : Bool → Blow → Parts
+    parts a b = leaving b (v .deeds .flight) (pick a (splitBy (HasPlace (v .deeds .lands .place)) (s .sends) .kept) (s .sends))
+
+    kept : Bool → Blow → Station
+    kept a b =
+        stationBy (s .n) (s .limit) (s .own) (liveAfter (s .live) b) (parts a b .kept) (s .receives) (v .turn)
+        (record { lost = s .counts .lost; givenup = addUpTo (s .counts .givenup) (parts a b .gone .len) })
+
     go : (a : Bool) (b : Blow) (p : Payload) → pick a false (pick (spares b) (storesNone p) false) ≡ true
         → turnAlone s v
         ≡ record {
-          station = storing
-              (record {
-                n = s .n;
-                limit = s .limit;
-                own = s .own;
-                live = liveAfter (s .live) b;
-                sends = leaving b (v .deeds .flight) (pick a (splitBy (HasPlace (v .deeds .lands .place)) (s .sends) .kept) (s .sends)) .kept;
-                receives = s .receives;
-                turn = v .turn;
-                lost = s .lost;
-                givenup = addUpTo (s .givenup) (leaving b (v .deeds .flight) (pick a (splitBy (HasPlace (v .deeds .lands .place)) (s .sends) .kept) (s .sends)) .gone .len);
-              })
-              p .station;
+          station = storing (kept a b) p .station;
           number = v .number;
           sent = v .sent;
           struck = struckBy (s .live) b;
-          gone = leaving b (v .deeds .flight) (pick a (splitBy (HasPlace (v .deeds .lands .place)) (s .sends) .kept) (s .sends)) .gone;
-          payload = storing
-              (record {
-                n = s .n;
-                limit = s .limit;
-                own = s .own;
-                live = liveAfter (s .live) b;
-                sends = leaving b (v .deeds .flight) (pick a (splitBy (HasPlace (v .deeds .lands .place)) (s .sends) .kept) (s .sends)) .kept;
-                receives = s .receives;
-                turn = v .turn;
-                lost = s .lost;
-                givenup = addUpTo (s .givenup) (leaving b (v .deeds .flight) (pick a (splitBy (HasPlace (v .deeds .lands .place)) (s .sends) .kept) (s .sends)) .gone .len);
-              })
-              p .payload;
+          gone = parts a b .gone;
+          payload = storing (kept a b) p .payload;
         }
     go true b p e = absurd (false≢true e)
-    go false blow.Spares NoPayload e = rw (add-none (s .givenup))
+    go false blow.Spares NoPayload e = rw (add-none (s .counts .givenup))
     go false blow.Spares (Of m) e = absurd (false≢true e)
     go false (blow.Another q) p e = absurd (false≢true e)
     go false (blow.Last q) p e = absurd (false≢true e)

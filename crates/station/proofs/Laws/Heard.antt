@@ -29,7 +29,7 @@ use Rattle.station.proofs.Laws.Moved.{moved-runs, unless-passes}
 
 -- ---- stored, or counted lost
 
-pub receives-none : (s : Station) (m : Message) (k : ℕ) → k ≡ addUpTo (s .lost) 1 → 16 ≤ s .receives .len
+pub receives-none : (s : Station) (m : Message) (k : ℕ) → k ≡ addUpTo (s .counts .lost) 1 → 16 ≤ s .receives .len
     → _≡_ {A = Stored} (record { station = withLost s k; payload = NoPayload }) (receive s m)
 unfolding receive
 receives-none s m k e h = rw e (sym (pick-true _ _ (le-leb _ _ h)))

@@ -33,8 +33,7 @@ pub made-of : (n limit own : ℕ) (l : Live) (a b : Messages) → l ≡ full n �
       sends = a;
       receives = b;
       turn = record { state = Offline; awaited = Nothing; handled = Never; retries = 0 };
-      lost = 0;
-      givenup = 0;
+      counts = record { lost = 0; givenup = 0 };
     } ≡ made n limit own
 made-of n limit own l a b p q r = λ i.
     record {
@@ -45,8 +44,7 @@ made-of n limit own l a b p q r = λ i.
       sends = q i;
       receives = r i;
       turn = record { state = Offline; awaited = Nothing; handled = Never; retries = 0 };
-      lost = 0;
-      givenup = 0;
+      counts = record { lost = 0; givenup = 0 };
     }
 
 -- an answer with an empty list of messages given up, nothing else told

@@ -239,12 +239,13 @@ pub fn touch(s: Station, v: Verdict, d: Parts) -> Station
     let gone = d.gone;
     let blow = e.blow;
     let live = live_after(s.live, blow);
-    let givenup = crate::station::add_up_to(s.givenup, gone.len);
+    let mut counts = s.counts;
+    counts.givenup = crate::station::add_up_to(counts.givenup, gone.len);
     let mut o = s;
     o.turn = turn;
     o.sends = kept;
     o.live = live;
-    o.givenup = givenup;
+    o.counts = counts;
     o
 }
 

@@ -164,9 +164,10 @@ pub fn receive_it(s: Station, m: Message) -> Stored
 {
     let l = s.receives;
     if 16 <= l.len {
-        let lost = crate::station::add_up_to(s.lost, 1);
+        let mut counts = s.counts;
+        counts.lost = crate::station::add_up_to(counts.lost, 1);
         let mut station = s;
-        station.lost = lost;
+        station.counts = counts;
         return Stored {
             station,
             payload: Payload::NoPayload,

@@ -112,7 +112,7 @@ module _ (s : Station) (b : Based noFlight s) (a : alone s ≡ false) (from : �
       go : (t : Bool) → leb 16 (s .receives .len) ≡ t
           → Ready s
           (pick {A = Stored} t
-          (record { station = withLost s (addUpTo (s .lost) 1); payload = NoPayload })
+          (record { station = withLost s (addUpTo (s .counts .lost) 1); payload = NoPayload })
           (record { station = withReceives s (pushed (s .receives) m); payload = Of m })
           .station)
       go true t = lost-one _

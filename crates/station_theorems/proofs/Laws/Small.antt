@@ -70,8 +70,8 @@ pub record Small (n limit : ℕ) (s : Station) : Type 0 where
   pub receives : SmallList (s .receives)
   pub awaited : SmallDispatch (awaitedOf s)
   pub handled : SmallHandled (s .turn .handled)
-  pub lost : s .lost < 4294967296
-  pub givenup : s .givenup < 4294967296
+  pub lost : s .counts .lost < 4294967296
+  pub givenup : s .counts .givenup < 4294967296
 
 -- ---- of two, either is small
 

@@ -21,7 +21,7 @@ pub record StrikesNobody (s : Station) (a : Answer) : Type 0 where
   pub nobody-struck : a .struck ≡ Nobody
   pub live-kept : a .station .live ≡ s .live
   pub none-given-up : a .gone ≡ none
-  pub count-kept : a .station .givenup ≡ s .givenup
+  pub count-kept : a .station .counts .givenup ≡ s .counts .givenup
 
 number-alone : (s : Station) (number : ℕ) → StrikesNobody s (answered s number)
 number-alone s number = record { nobody-struck = refl; live-kept = refl; none-given-up = refl; count-kept = refl }

@@ -100,7 +100,7 @@ module _ (n limit : ℕ) where
         awaited = h .awaited;
         handled = h .handled;
         lost = h .lost;
-        givenup = add-small (l .station .givenup) (l .gone .len) (h .givenup);
+        givenup = add-small (l .station .counts .givenup) (l .gone .len) (h .givenup);
       }
 
   quiet-small : (s : Station) (st : State) → Small n limit s → Small n limit (quiet s st)
@@ -141,7 +141,7 @@ module _ (n limit : ℕ) where
   stored-small s from (Transmit t) h q = h
   stored-small s from (Information i) h q =
       pick-keeps (λ (t : Stored). Small n limit (t .station)) (leb 16 (s .receives .len)) _ _
-      (record { n-is = h .n-is; limit-is = h .limit-is; sends = h .sends; receives = h .receives; awaited = h .awaited; handled = h .handled; lost = add-small (s .lost) 1 (h .lost); givenup = h .givenup })
+      (record { n-is = h .n-is; limit-is = h .limit-is; sends = h .sends; receives = h .receives; awaited = h .awaited; handled = h .handled; lost = add-small (s .counts .lost) 1 (h .lost); givenup = h .givenup })
       (record { n-is = h .n-is; limit-is = h .limit-is; sends = h .sends; receives = push-small (s .receives) _ (h .receives) (q .priority); awaited = h .awaited; handled = h .handled; lost = h .lost; givenup = h .givenup })
 
   respond-small : (k : Struck) (from to : ℕ) (f : Frame) → SmallStruck k → SmallFrame f → Small n limit (respond k from to f .station)

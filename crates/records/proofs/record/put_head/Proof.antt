@@ -24,7 +24,7 @@ same-length c = search needs
 returns : tie.Need-returns
 returns c =
     let a = c .before .before .before .before .before .before .before .before .before .before .before .before .before .args in
-    laid-three (a .out .now) _ _ _ (turnOctets (a .own) (a .turn)) (countsOctets (a .lost) (a .givenup)) (liveOctets (a .live)) ownAt lostAt liveAt refl refl (omega (arith, c .before .before .before .before .before .before .before .before .before .before .before .before .before .pre)) (c .before .before .before .before .before .before .before .before .before .before .put-turn .ensures) (c .before .before .before .before .before .before .put-two .ensures) (c .before .before .put-live .ensures)
+    laid-three (a .out .now) _ _ _ (turnOctets (a .own) (a .turn)) (countsOctets (a .counts)) (liveOctets (a .live)) ownAt lostAt liveAt refl refl (omega (arith, c .before .before .before .before .before .before .before .before .before .before .before .before .before .pre)) (c .before .before .before .before .before .before .before .before .before .before .put-turn .ensures) (c .before .before .before .before .before .before .put-two .ensures) (c .before .before .put-live .ensures)
 
 pub put-head-spec : {M : Type 1} → statement M
 put-head-spec =

@@ -10,7 +10,7 @@ add-up-to-requires : tie.Need-add-up-to-requires
 add-up-to-requires c κs = search needs
 
 returns : tie.Need-returns
-returns c = rw (c .add-up-to .ensures, c .before .live-after .ensures)
+returns c = rw (c .add-up-to .ensures, c .before .before .live-after .ensures)
 
 pub touch-spec : {M : Type 1} → statement M
 touch-spec = tie.close (tie.spec live-after-requires add-up-to-requires returns)
