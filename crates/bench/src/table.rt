@@ -7,8 +7,7 @@ ghost use Rattle.codec.specs.Octets.{laid};
 ghost use Rattle.parts.specs.Live.{seats};
 ghost use Rattle.station.specs.Stations.{withTurn};
 ghost use Rattle.station.specs.Heard.{frameRule};
-ghost use Rattle.station.specs.Deeds.{carriedOut};
-ghost use Rattle.station.specs.Decide.{decided};
+ghost use Rattle.station.specs.Decide.{turnedBy};
 ghost use Rattle.station.specs.Queue.{queueRule};
 ghost use Rattle.bench.specs.Ring.{nobody};
 ghost use Rattle.bench.specs.Delivery.{isQuiet, handed, delivered, steps};
@@ -19,7 +18,7 @@ use parts::frame::Dispatch;
 use parts::frame::Frame;
 use parts::frame::TransmitFrame;
 use parts::request::Request;
-use station::rules::deeds::Verdict;
+use station::rules::deeds::Turned;
 use station::station::Station;
 use station::station::Turn;
 
@@ -79,13 +78,13 @@ pub fn touched_from(table: &[Station], p: usize, h: Handing) -> usize
     q
 }
 
-// What a frame asks of the station at `p`.
-pub fn decided_at(table: &[Station], p: usize, frame: Frame, from: u8, to: u8) -> Verdict
+// What a frame does to the turn of the station at `p`, and whether it does nothing else.
+pub fn turned_at(table: &[Station], p: usize, frame: Frame, from: u8, to: u8) -> Turned
     requires { ⌜ p < length (now table) ⌝ }
-    ensures { λ r. ⌜ r ≡ decided (getD (now (table .entry)) p nobody) frame from to ⌝ }
+    ensures { λ r. ⌜ r ≡ turnedBy (getD (now (table .entry)) p nobody) frame from to ⌝ }
 {
     let s = table[p];
-    s.decide(frame, from, to)
+    s.turns(frame, from, to)
 }
 
 // The turn of the station at `p`.
@@ -96,14 +95,14 @@ pub fn turn_at(table: &mut [Station], p: usize, turn: Turn)
     table[p].turn = turn;
 }
 
-// The station at `p` does what was decided, by value.
-pub fn carry_out_at(table: &mut [Station], p: usize, v: Verdict) -> Dispatch
+// The station at `p` goes through the rule by value.
+pub fn step_at(table: &mut [Station], p: usize, frame: Frame, from: u8, to: u8) -> Dispatch
     requires { ⌜ p < length (now table) ⌝ }
-    ensures { λ r. ⌜ (r ≡ carriedOut (getD (now (table .entry)) p nobody) v .sent)
-        × (now (table .exit) ≡ set (now (table .entry)) p (carriedOut (getD (now (table .entry)) p nobody) v .station)) ⌝ }
+    ensures { λ r. ⌜ (r ≡ frameRule (getD (now (table .entry)) p nobody) frame from to .sent)
+        × (now (table .exit) ≡ set (now (table .entry)) p (frameRule (getD (now (table .entry)) p nobody) frame from to .station)) ⌝ }
 {
     let s = table[p];
-    let d = s.carry_out(v);
+    let d = s.frame(frame, from, to);
     table[p] = d.station;
     d.sent
 }
@@ -114,12 +113,12 @@ pub fn hear_at(table: &mut [Station], p: usize, frame: Frame, from: u8, to: u8) 
     ensures { λ r. ⌜ (r ≡ frameRule (getD (now (table .entry)) p nobody) frame from to .sent)
         × (now (table .exit) ≡ set (now (table .entry)) p (frameRule (getD (now (table .entry)) p nobody) frame from to .station)) ⌝ }
 {
-    let v = decided_at(&*table, p, frame, from, to);
-    if v.alone {
-        turn_at(&mut *table, p, v.turn);
-        return v.sent;
+    let t = turned_at(&*table, p, frame, from, to);
+    if t.alone {
+        turn_at(&mut *table, p, t.turn);
+        return t.sent;
     }
-    carry_out_at(&mut *table, p, v)
+    step_at(&mut *table, p, frame, from, to)
 }
 
 // A frame is handed to every station that hears it; the addressee's new frame.

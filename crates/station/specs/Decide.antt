@@ -1,6 +1,6 @@
 -- What a call decides, over the turn, the live set, the position and the head, before any list is touched.
 use mathlib.Core.Bool.{Bool}
-use Prim.Native.Nat.{ℕ, _+_}
+use Prim.Native.Nat.{ℕ}
 use lib.Dec.{eqb, ltb}
 use Rattle.parts.specs.Choose.{pick}
 use Rattle.parts.specs.Moves.{moveOf, runs}
@@ -9,7 +9,7 @@ use Rattle.parts.specs.Live.{without, successor}
 use Rattle.parts.specs.Frames.{numberOf, flight, noFlight, failingOf}
 use Rattle.plain_rules.specs.Round.{reply, startRound}
 use Rattle.plain_rules.specs.Resend.{resend}
-use Rattle.station.specs.Stations.{stateOf, awaitedOf, quietTurn, sendingTurn}
+use Rattle.station.specs.Stations.{stateOf, awaitedOf, quietTurn, sendingTurn, moreTurn}
 use Rattle.station.specs.Heard.{checks, acknowledged, stops, heardMessage}
 use Rattle.station.specs.Deeds.{verdict, refused, turned}
 use Rattle.parts.specs.declared.moves.State.the-variants.{Idle, Alone, Excluded}
@@ -34,6 +34,7 @@ use Rattle.station.specs.declared.rules.deeds.Blow.{Blow}
 use Rattle.station.specs.declared.rules.deeds.Blow.the-variants as blow
 use Rattle.station.specs.declared.rules.deeds.Deeds.{Deeds}
 use Rattle.station.specs.declared.rules.deeds.Verdict.{Verdict}
+use Rattle.station.specs.declared.rules.deeds.Turned.{Turned}
 use Rattle.station.specs.declared.rules.heard.Course.{Course}
 
 -- ---- what the station looks at once `w` is struck: neither the message in flight nor those to `w` compete for the head
@@ -126,10 +127,12 @@ decided s f from to =
     (refused (s .turn) (checks s from to)))
     (refused (s .turn) (moveOf (stateOf s) Heard))
 
--- ---- the timer, and the start
+-- as far as the turn goes
+abbrev pub turnedBy : Station → Frame → ℕ → ℕ → Turned
+turnedBy s f from to =
+    record { alone = decided s f from to .alone; turn = decided s f from to .turn; sent = decided s f from to .sent }
 
-abbrev pub moreTurn : Turn → Turn
-moreTurn t = record { state = t .state; awaited = t .awaited; handled = t .handled; retries = t .retries + 1 }
+-- ---- the timer, and the start
 
 -- the last timer of a frame to `to`
 abbrev pub strikesOut : Station → ℕ → Turn → Dispatch → Verdict

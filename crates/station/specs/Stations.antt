@@ -74,12 +74,16 @@ stateOf s = s .turn .state
 abbrev pub awaitedOf : Station → Dispatch
 awaitedOf s = s .turn .awaited
 
+abbrev pub newTurn : Turn
+newTurn = record { state = Offline; awaited = Nothing; handled = Never; retries = 0 }
+
+abbrev pub newCounts : Counts
+newCounts = record { lost = 0; givenup = 0 }
+
 -- Offline at first; all N live; both lists empty; no number handled; no frame awaited; the counts at 0
 abbrev pub made : ℕ → ℕ → ℕ → Station
 made n limit own =
-    stationBy n limit own (full n) none none
-    (record { state = Offline; awaited = Nothing; handled = Never; retries = 0 })
-    (record { lost = 0; givenup = 0 })
+    stationBy n limit own (full n) none none newTurn newCounts
 
 -- in a state with no frame awaited; the retry count stays
 abbrev pub quietTurn : Turn → State → Turn
@@ -94,6 +98,10 @@ sendingTurn handled d = record { state = Waiting; awaited = d; handled = handled
 
 abbrev pub sending : Station → Handled → Dispatch → Station
 sending s handled d = withTurn s (sendingTurn handled d)
+
+-- one retry more
+abbrev pub moreTurn : Turn → Turn
+moreTurn t = record { state = t .state; awaited = t .awaited; handled = t .handled; retries = t .retries + 1 }
 
 -- "both counts stop at 4,294,967,295"
 unfoldable pub addUpTo : ℕ → ℕ → ℕ

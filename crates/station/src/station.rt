@@ -1,11 +1,13 @@
 // The station and what a call answers.
 ghost use mathlib.Core.Path.{_≡_};
+ghost use Prim.Native.Nat.{_<_};
 ghost use Rattle.station.specs.Stations.{
   made,
   withSends,
   withReceives,
   quietTurn,
   sendingTurn,
+  moreTurn,
   addUpTo,
   answered,
   alone,
@@ -104,6 +106,23 @@ pub fn waiting(handled: Handled, d: Dispatch) -> Turn
         awaited: d,
         handled,
         retries: 0,
+    }
+}
+
+// One retry more, below the limit.
+pub fn more_turn(t: Turn) -> Turn
+    requires { ⌜ t .retries < 255 ⌝ }
+    ensures { λ r. ⌜ r ≡ moreTurn t ⌝ }
+{
+    let state = t.state;
+    let awaited = t.awaited;
+    let handled = t.handled;
+    let retries = t.retries + 1;
+    Turn {
+        state,
+        awaited,
+        handled,
+        retries,
     }
 }
 

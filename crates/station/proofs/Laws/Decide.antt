@@ -12,14 +12,14 @@ use Rattle.parts.specs.Live.{without, successor}
 use Rattle.parts.specs.Frames.{numberOf, flight, noFlight, failingOf}
 use Rattle.plain_rules.specs.Round.{reply, startRound}
 use Rattle.plain_rules.specs.Resend.{resend}
-use Rattle.station.specs.Stations.{stateOf, awaitedOf, withTurn, quietTurn, quiet, sendingTurn, alone, head, answered, moved, unless}
+use Rattle.station.specs.Stations.{stateOf, awaitedOf, withTurn, moreTurn, quietTurn, quiet, sendingTurn, alone, head, answered, moved, unless}
 use Rattle.station.specs.Round.{sight}
 use Rattle.station.specs.Strike.{Struck}
 use Rattle.station.specs.Start.{sentFirst, started, startRule}
 use Rattle.station.specs.Heard.{checks, acknowledged, acknowledge, failed, isLast, stops, nothingMore, heardMessage, receive, stored, sendOn, handle, silent, respond, heard, frameRule}
 use Rattle.station.specs.Timer.{again, unanswered, leftAlone, goesOn, afterStrike, silence, onTimer, timerRule}
 use Rattle.station.specs.Deeds.{refused, turned, landing, leaving, liveAfter, struckBy, left, touched, storing, fully, carriedOut, verdict, turnAlone}
-use Rattle.station.specs.Decide.{liveWithout, competing, sightAfter, rested, landsBy, blowAt, blowOf, closed, courseOf, toStore, storesToo, quietly, replying, hearing, decided, moreTurn, strikesOut, goingOn, lastTimer, waited, timing, beginning, starting}
+use Rattle.station.specs.Decide.{liveWithout, competing, sightAfter, rested, landsBy, blowAt, blowOf, closed, courseOf, toStore, storesToo, quietly, replying, hearing, decided, strikesOut, goingOn, lastTimer, waited, timing, beginning, starting}
 use Rattle.parts.specs.declared.moves.State.the-variants.{Idle, Alone, Excluded}
 use Rattle.parts.specs.declared.moves.Event.the-variants.{Heard, Timer, Start}
 use Rattle.parts.specs.declared.list.Message.{Message}
@@ -45,7 +45,7 @@ use Rattle.station.specs.declared.rules.deeds.Blow.{Blow}
 use Rattle.station.specs.declared.rules.deeds.Blow.the-variants as blow
 use Rattle.station.specs.declared.rules.deeds.Verdict.{Verdict}
 use Rattle.parts.proofs.Laws.Choose.{pick-true, pick-false}
-use Rattle.station.proofs.Laws.Deeds.{either-way, turned-alone, struckOf, fails, strikes-out, ackedBy, acknowledges, receive-turn, receive-sight}
+use Rattle.station.proofs.Laws.Deeds.{carries-turn, either-way, turned-alone, struckOf, fails, strikes-out, ackedBy, acknowledges, receive-turn, receive-sight}
 use Rattle.station.proofs.Laws.Heads.{landed-best, others-best, flight-best}
 
 -- ---- which of the two a heard frame asks for
@@ -172,6 +172,10 @@ frame-decides s f from to = go (eqb (moveOf (stateOf s) Heard) runs) (eqb (check
     go true true = decides s f from to
     go true false = nothing-done s (checks s from to)
     go false c = nothing-done s (moveOf (stateOf s) Heard)
+
+-- where the turn alone changes
+pub turned-hears : (s : Station) (f : Frame) (from to : ℕ) → decided s f from to .alone ≡ true → frameRule s f from to ≡ turnAlone s (decided s f from to)
+turned-hears s f from to e = frame-decides s f from to ∙ sym (carries-turn s (decided s f from to) e)
 
 -- ---- the timer, and the start
 

@@ -59,6 +59,13 @@ pub struct Verdict {
     pub deeds: Deeds,
 }
 
+// The turn and the frame to send, and whether nothing else was decided.
+pub struct Turned {
+    pub alone: bool,
+    pub turn: Turn,
+    pub sent: Dispatch,
+}
+
 pub fn no_deeds() -> Deeds
     ensures { λ r. ⌜ r ≡ Rattle.station.specs.Deeds.noDeeds ⌝ }
 {

@@ -1,9 +1,10 @@
 // A heard frame, in five steps: what it asks for is decided, and then done.
 ghost use mathlib.Core.Path.{_≡_};
 ghost use Rattle.station.specs.Heard.{checks, acknowledged, isLast, stops, heardMessage, receive, frameRule};
-ghost use Rattle.station.specs.Decide.{rested, landsBy, blowAt, blowOf, closed, courseOf, toStore, storesToo, quietly, replying, hearing, decided};
+ghost use Rattle.station.specs.Decide.{rested, landsBy, blowAt, blowOf, closed, courseOf, toStore, storesToo, quietly, replying, hearing, decided, turnedBy};
 use crate::rules::deeds::Blow;
 use crate::rules::deeds::Deeds;
+use crate::rules::deeds::Turned;
 use crate::rules::deeds::Verdict;
 use crate::station::Answer;
 use crate::station::Handled;
@@ -273,6 +274,20 @@ impl Station {
         let acked = is_acknowledged(self, from, number);
         let course = course_of(self, f, acked);
         hear(self, f, from, to, course)
+    }
+
+    // What a heard frame does to the turn.
+    pub fn turns(self, f: Frame, from: u8, to: u8) -> Turned
+        ensures { λ r. ⌜ r ≡ turnedBy self f from to ⌝ }
+    {
+        let v = self.decide(f, from, to);
+        let turn = v.turn;
+        let sent = v.sent;
+        Turned {
+            alone: v.alone,
+            turn,
+            sent,
+        }
     }
 
     // A frame is heard, from one member to another.

@@ -1,9 +1,6 @@
 // The timer of a Waiting station.
 ghost use mathlib.Core.Path.{_≡_};
-ghost use Prim.Native.Nat.{_<_};
-ghost use Rattle.parts.specs.Frames.{flight};
-ghost use Rattle.station.specs.Stations.{awaitedOf};
-ghost use Rattle.station.specs.Decide.{moreTurn, strikesOut, goingOn, lastTimer, waited, timing};
+ghost use Rattle.station.specs.Decide.{strikesOut, goingOn, lastTimer, waited, timing};
 ghost use Rattle.station.specs.Timer.{timerRule};
 use crate::rules::deeds::Blow;
 use crate::rules::deeds::Deeds;
@@ -18,23 +15,6 @@ use parts::frame::Whom;
 use parts::list::Flight;
 use parts::moves::Event;
 use parts::moves::State;
-
-// One retry more, below the limit.
-pub fn more_turn(t: Turn) -> Turn
-    requires { ⌜ t .retries < 255 ⌝ }
-    ensures { λ r. ⌜ r ≡ moreTurn t ⌝ }
-{
-    let state = t.state;
-    let awaited = t.awaited;
-    let handled = t.handled;
-    let retries = t.retries + 1;
-    Turn {
-        state,
-        awaited,
-        handled,
-        retries,
-    }
-}
 
 // The addressee is struck, and what goes with it is given up.
 pub fn strike_out(s: Station, to: u8, turn: Turn, sent: Dispatch) -> Verdict
@@ -81,7 +61,7 @@ pub fn wait_on(s: Station, to: u8, f: Frame) -> Verdict
 {
     let t = s.turn;
     if t.retries < s.limit {
-        let turn = more_turn(t);
+        let turn = crate::station::more_turn(t);
         let sent = t.awaited;
         return crate::rules::deeds::turn_to(turn, sent);
     }

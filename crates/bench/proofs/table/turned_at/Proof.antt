@@ -1,4 +1,4 @@
--- Written by tools/walk. `table::decided_at` meets its contract: a walk of its MIR. The record is copied out of the table, and `decide` is called with it.
+-- Written by tools/walk. `table::turned_at` meets its contract: a walk of its MIR. The record is copied out of the table, and `turns` is called with it.
 -- Assumes nothing.
 use mathlib.Core.Path.{_≡_, refl, sym}
 use Prim.Native.Nat.{ℕ, _<_, _^_, _*_}
@@ -41,26 +41,26 @@ use denote.Triple.Table.{entered, cited}
 use denote.Triple.Walked.{says, needs, Stays, stay-none, walkOf, Walks, ends-at, walked, goes-none, walk-meets, stay-none-slice, goes-none-slice}
 use denote.Exit.{yes}
 use Rattle.parts.specs.declared.frame.Frame.{Frame}
-use Rattle.station.specs.declared.rules.deeds.Verdict.{Verdict}
+use Rattle.station.specs.declared.rules.deeds.Turned.{Turned}
 use Rattle.station.specs.declared.station.Station.{Station}
 use Rattle.bench.specs.Ring.{nobody}
-use Rattle.station.specs.Decide.{decided}
-use Rattle.station.proofs.station.Station.decide.Symbol.{name as #callee}
-use Rattle.bench.proofs.table.decided_at.Key.{name as #self}
+use Rattle.station.specs.Decide.{turnedBy}
+use Rattle.station.proofs.station.Station.turns.Symbol.{name as #callee}
+use Rattle.bench.proofs.table.turned_at.Key.{name as #self}
 use Rattle.parts.proofs.frame.Frame as Frame-row
 use Rattle.parts.proofs.frame.Frame.Laws as Frame-row′
 use denote.Enum.Laws as EL
-use Rattle.station.proofs.rules.deeds.Verdict as Vd
-use Rattle.station.proofs.rules.deeds.Verdict.Laws as Vd′
+use Rattle.station.proofs.rules.deeds.Turned as L
+use Rattle.station.proofs.rules.deeds.Turned.Laws as L′
 use denote.Struct.Laws as LL
 use Rattle.station.proofs.station.Station as T
 use Rattle.station.proofs.station.Station.Laws as T′
-use Rattle.station.proofs.station.Station.decide as callee
-use Rattle.station.proofs.station.Station.decide.Symbol as callee-def
-use Rattle.station.proofs.station.Station.decide.Met as callee-thm
-use Rattle.bench.proofs.table.decided_at as self
-use Rattle.bench.proofs.table.decided_at.Statement as stated
-use Rattle.bench.proofs.table.decided_at.Code as code
+use Rattle.station.proofs.station.Station.turns as callee
+use Rattle.station.proofs.station.Station.turns.Symbol as callee-def
+use Rattle.station.proofs.station.Station.turns.Met as callee-thm
+use Rattle.bench.proofs.table.turned_at as self
+use Rattle.bench.proofs.table.turned_at.Statement as stated
+use Rattle.bench.proofs.table.turned_at.Code as code
 
 -- the types of a struct's fields
 abbrev fieldTypes : Declared → Tys
@@ -75,8 +75,8 @@ module _ {M : Type 1} (𝓤 : URA M) (H : Heap 𝓤) (A : Atoms 𝓤) (mem : Mem
   abbrev Called : Contract 𝓤
   Called = tripleOf 𝓤 H A callee.signature (callee.spec 𝓤 H A mem run)
 
-  said : (h : Station) (v0 : Frame) (v1 : ℕ) (v2 : ℕ) (d : Verdict) → ent 𝓤 (ensured 𝓤 H A callee.ended (callee.clauses 𝓤 H A mem run) tt (h, (v0, (v1, (v2, tt)))) tt d) (fact 𝓤 (d ≡ decided h v0 v1 v2))
-  said h v0 v1 v2 d = exE 𝓤 _ (λ ws. snd∗ 𝓤 (sem 𝓤 H A (lasts callee.ended tt (h, (v0, (v1, (v2, tt)))) ws)) (fact 𝓤 (d ≡ decided h v0 v1 v2)))
+  said : (h : Station) (v0 : Frame) (v1 : ℕ) (v2 : ℕ) (d : Turned) → ent 𝓤 (ensured 𝓤 H A callee.ended (callee.clauses 𝓤 H A mem run) tt (h, (v0, (v1, (v2, tt)))) tt d) (fact 𝓤 (d ≡ turnedBy h v0 v1 v2))
+  said h v0 v1 v2 d = exE 𝓤 _ (λ ws. snd∗ 𝓤 (sem 𝓤 H A (lasts callee.ended tt (h, (v0, (v1, (v2, tt)))) ws)) (fact 𝓤 (d ≡ turnedBy h v0 v1 v2)))
 
 -- a record's machine values
 abbrev vals : Station → List Val
@@ -114,9 +114,9 @@ module _ {M : Type 1} (𝓤 : URA M) (H : Heap 𝓤) (A : Atoms 𝓤) (W : Given
   goes =
       qed W (‵ (T.the-row .own elem (mach ∷ [])) ∷ []) ∵ nothing ! $ owned ! u8 (Is u8) (uint-makes 𝓤 H A W w8) the-to _ to-is $ fjoin ! $ owned ! u8 (Is u8) (uint-makes 𝓤 H A W w8) the-from _ from-is $ fjoin ! $ owned ! Frame-row.the-row (Is Frame-row.the-row) (EL.makes Frame-row.the-type Frame-row′.the-plain 𝓤 H A) the-frame _ frame-is $ fjoin ! $ move ! (1 ∷ 0 ∷ []) $ fjoin ! $ nothing ! $ join ! $ frame ! $ done !
 
-  exits : (r : Verdict) (w : Val) → r ≡ decided elem the-frame the-from the-to → ent 𝓤 (⋆ 𝓤 H A (‵ (flft κ q) ∷ ‵ (owns (ShrSlice (named 0) κ T.the-row ∷ usize ∷ Frame-row.the-row ∷ u8 ∷ u8 ∷ []) x at) ∷ ‵ (Vd.the-row .own r (w ∷ [])) ∷ [])) (Post w)
+  exits : (r : Turned) (w : Val) → r ≡ turnedBy elem the-frame the-from the-to → ent 𝓤 (⋆ 𝓤 H A (‵ (flft κ q) ∷ ‵ (owns (ShrSlice (named 0) κ T.the-row ∷ usize ∷ Frame-row.the-row ∷ u8 ∷ u8 ∷ []) x at) ∷ ‵ (L.the-row .own r (w ∷ [])) ∷ [])) (Post w)
   exits r w e =
-      qed W (‵ (flft κ q) ∷ ‵ (owns (ShrSlice (named 0) κ T.the-row ∷ usize ∷ Frame-row.the-row ∷ u8 ∷ u8 ∷ []) x at) ∷ ‵ (Vd.the-row .own r (w ∷ [])) ∷ []) ∵
+      qed W (‵ (flft κ q) ∷ ‵ (owns (ShrSlice (named 0) κ T.the-row ∷ usize ∷ Frame-row.the-row ∷ u8 ∷ u8 ∷ []) x at) ∷ ‵ (L.the-row .own r (w ∷ [])) ∷ []) ∵
       suffices ! _ (ends-at 𝓤 H A self.ended stayed (self.clauses 𝓤 H A mem run) W (((κ, tt), (q, tt), tt, x, at), tt) w r (tt, (tt, (tt, (tt, (tt, tt))))) (tt, (tt, (tt, (tt, (tt, tt)))))) $ says ! e $
       nothing ! $ move ! (1 ∷ 0 ∷ []) $ join ! $ frame ! $ frame ! $ done !
 
@@ -146,10 +146,10 @@ module _ {M : Type 1} (𝓤 : URA M) (H : Heap 𝓤) (A : Atoms 𝓤) (W : Given
         -- the call
         use1 W (raw (Called 𝓤 H A mem run .pre to-callee)) goes $
         calls-at ! fm (Called 𝓤 H A mem run) known to-callee (and-then ! (load ! (from ! (stop !)) (look ! 13 refl)) (and-then ! (load ! (from ! (stop !)) (look ! 19 refl)) (and-then ! (load ! (from ! (stop !)) (look ! 17 refl)) (and-then ! (load ! (from ! (stop !)) (look ! 15 refl)) (no-more !))))) (λ w.
-        use1 W (later (some (λ (r : Verdict). (‵ ftrue ⊛ ‵ (Vd.the-row .own r (w ∷ []))) ⊛ raw (ensured 𝓤 H A callee.ended (callee.clauses 𝓤 H A mem run) tt (elem, (the-frame, (the-from, (the-to, tt)))) tt r)))) (id⊢ 𝓤 _) $ await ! tt $ pick ! (λ r.
-        split ! $ move ! (1 ∷ []) $ use1 W (raw (fact 𝓤 (r ≡ decided elem the-frame the-from the-to))) (said 𝓤 H A mem run elem the-frame the-from the-to r) $ heard ! (r ≡ decided elem the-frame the-from the-to) (λ e. split ! $ drop ! $
-        peeks ! Vd.the-row (Is Vd.the-row) (shows 𝓤 H A Vd.the-row) r (w ∷ []) (λ is.
-        land ! (from ! (stop !)) (init ! 25 refl (LL.lawful Vd.the-type Vd′.the-laws 𝓤 H A W .typed r _ is .0)) $
+        use1 W (later (some (λ (r : Turned). (‵ ftrue ⊛ ‵ (L.the-row .own r (w ∷ []))) ⊛ raw (ensured 𝓤 H A callee.ended (callee.clauses 𝓤 H A mem run) tt (elem, (the-frame, (the-from, (the-to, tt)))) tt r)))) (id⊢ 𝓤 _) $ await ! tt $ pick ! (λ r.
+        split ! $ move ! (1 ∷ []) $ use1 W (raw (fact 𝓤 (r ≡ turnedBy elem the-frame the-from the-to))) (said 𝓤 H A mem run elem the-frame the-from the-to r) $ heard ! (r ≡ turnedBy elem the-frame the-from the-to) (λ e. split ! $ drop ! $
+        peeks ! L.the-row (Is L.the-row) (shows 𝓤 H A L.the-row) r (w ∷ []) (λ is.
+        land ! (from ! (stop !)) (init ! 25 refl (LL.lawful L.the-type L′.the-laws 𝓤 H A W .typed r _ is .0)) $
         returns ! (look ! 25 refl) $ forget ! 7 refl $ forget ! 9 refl $ forget ! 11 refl $ forget ! 13 refl $ forget ! 15 refl $ forget ! 17 refl $ forget ! 19 refl $ forget ! 21 refl $ forget ! 23 refl $ forget ! 25 refl $
         move ! (25 ∷ 26 ∷ []) $ free1 ! $ move ! (23 ∷ 24 ∷ []) $ free1 ! $ move ! (21 ∷ 22 ∷ []) $ free1 ! $ move ! (19 ∷ 20 ∷ []) $ free1 ! $ move ! (17 ∷ 18 ∷ []) $ free1 ! $ move ! (15 ∷ 16 ∷ []) $ free1 ! $ move ! (13 ∷ 14 ∷ []) $ free1 ! $ move ! (11 ∷ 12 ∷ []) $ free1 ! $ move ! (9 ∷ 10 ∷ []) $ free1 ! $ move ! (7 ∷ 8 ∷ []) $ free1 ! $ free0 ! $
         -- what the slice owns is put together again
@@ -167,10 +167,10 @@ meets 𝓤 H A W mem run 𝓣 known =
     walk-meets 𝓤 H A self.ended stayed W (goes-none-slice 𝓤 H A W 1 (0 ∷ []) tt (plain (λ _. T.the-row)) yes, (goes-none 𝓤 H A W 1 (λ _. usize) yes (λ κs x f. refl), (goes-none 𝓤 H A W 1 (λ _. Frame-row.the-row) yes (λ κs x f. refl), (goes-none 𝓤 H A W 1 (λ _. u8) yes (λ κs x f. refl), (goes-none 𝓤 H A W 1 (λ _. u8) yes (λ κs x f. refl), tt))))) (self.clauses 𝓤 H A mem run)
     (WpFn 𝓤 H (𝓣 .C) (𝓣 .Λ) code.function) (WpFn-mono 𝓤 H (W .laws) 𝓣 code.function) (walks 𝓤 H A W mem run (𝓣 .C) (𝓣 .Λ) (fmOf 𝓤 H (W .laws) 𝓣) known)
 
-pub decided-at-spec : {M : Type 1} → stated.statement M
+pub turned-at-spec : {M : Type 1} → stated.statement M
 unfolding code.routine tablesOf
-decided-at-spec 𝓤 H 𝓜 𝓖 𝓡 =
+turned-at-spec 𝓤 H 𝓜 𝓖 𝓡 =
     entered 𝓤 H (tripleOf 𝓤 H (𝓖 .A) self.signature (self.spec 𝓤 H (𝓖 .A) (𝓜 .mem) (𝓡 .run)))
     (tables 𝓤 H 𝓜 𝓡 code.env .C) (tables 𝓤 H 𝓜 𝓡 code.env .Λ) #self code.function (code.unfolded 𝓤 H 𝓜 𝓡)
     (meets 𝓤 H (𝓖 .A) (givenOf 𝓤 H 𝓜 𝓖) (𝓜 .mem) (𝓡 .run) (tablesOf 𝓤 H 𝓜 (tables 𝓤 H 𝓜 𝓡 code.env))
-    (cited 𝓤 H (Called 𝓤 H (𝓖 .A) (𝓜 .mem) (𝓡 .run)) 𝓜 𝓡 code.env #callee callee-def.routine code.calls-station·station·Station·decide (callee-thm.met 𝓤 H 𝓜 𝓖 𝓡)))
+    (cited 𝓤 H (Called 𝓤 H (𝓖 .A) (𝓜 .mem) (𝓡 .run)) 𝓜 𝓡 code.env #callee callee-def.routine code.calls-station·station·Station·turns (callee-thm.met 𝓤 H 𝓜 𝓖 𝓡)))
