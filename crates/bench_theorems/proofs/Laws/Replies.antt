@@ -45,8 +45,8 @@ own-offer : (heads : ℕ → ℕ) (p pr k : ℕ) (w : Whom) → heads p ≡ pr �
 own-offer heads p pr k w e = go (eqb pr 0) refl
   where
     go : (b : Bool) → eqb pr 0 ≡ b → Offers heads (Token (opening p pr k w))
-    go true t = no-bid _ (eqb-true pr 0 t) refl
-    go false t = let some : pr ≡ 0 → ⊥ = eqb-false pr 0 t in bid _ (omega (arith, some)) (omega arith)
+    go true t = no-bid (opening p pr k w) (eqb-true pr 0 t) refl
+    go false t = let some : pr ≡ 0 → ⊥ = eqb-false pr 0 t in bid (opening p pr k w) (omega (arith, some)) (omega arith)
 
 module _ (n p : ℕ) (place : p < n) (h : Best) (from : ℕ) (f : Frame) where
   pub round-replied : ((q : ℕ) → longest n from f q ≤ n + 2) → Replied n from f p h (startRound (view n p h) (next (numberOf f)) Nobody)
@@ -57,7 +57,7 @@ module _ (n p : ℕ) (place : p < n) (h : Best) (from : ℕ) (f : Frame) where
         to = after n p;
         sent = refl;
         number = refl;
-        phase = token _ refl refl (omega arith);
+        phase = token (opening p (priorityOf h) (next (numberOf f)) Nobody) refl refl (omega arith);
         longer = λ q m o. omega (arith, few q, longest-round n p (priorityOf h) (next (numberOf f)) Nobody q place m o);
         offers = λ heads e x. own-offer heads p (priorityOf h) (next (numberOf f)) Nobody e;
       }
