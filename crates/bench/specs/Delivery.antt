@@ -6,9 +6,8 @@ use lib.Dec.{ltb, eqb}
 use Rattle.parts.specs.Choose.{pick}
 use Rattle.parts.specs.Moves.{isWaiting}
 use Rattle.parts.specs.Frames.{failingOf}
-use Rattle.station.specs.Stations.{answered}
+use Rattle.station.specs.Stations.{stateOf, answered}
 use Rattle.station.specs.Heard.{frameRule}
-use Rattle.parts.specs.declared.moves.State.{State}
 use Rattle.parts.specs.declared.frame.Whom.{Whom}
 use Rattle.parts.specs.declared.frame.Whom.the-variants.{Nobody, Member}
 use Rattle.parts.specs.declared.frame.Frame.{Frame}
@@ -20,31 +19,35 @@ use Rattle.bench.specs.Ring.{stationAt}
 use Rattle.bench.specs.declared.ring.Wire.{Wire}
 use Rattle.bench.specs.declared.ring.Bench.{Bench}
 
--- who hears a frame: every member of a ring of n but its sender
-abbrev pub hears : ℕ → ℕ → ℕ → Bool
-hears n from p = pick (ltb p n) (not (eqb p from)) false
-
--- what the station at the position p answers; who does not hear the frame answers nothing and stays as it is
-unfoldable pub handed : ℕ → Frame → ℕ → ℕ → ℕ → Station → Answer
-handed n f from to p s = pick (hears n from p) (frameRule s f from to) (answered s 0)
+-- what the station at the position p of a ring of n answers, `hears` saying who hears the frame; who is no member or does not hear it
+-- answers nothing and stays as it is
+unfoldable pub handed : ℕ → (ℕ → Bool) → Frame → ℕ → ℕ → ℕ → Station → Answer
+handed n hears f from to p s = pick (pick (ltb p n) (hears p) false) (frameRule s f from to) (answered s 0)
 
 -- the stations from the position p on, in ring order, once each has been handed the frame
-unfoldable pub delivered : ℕ → Frame → ℕ → ℕ → ℕ → List Station → List Station
-delivered n f from to p [] = []
-delivered n f from to p (s ∷ ss) = handed n f from to p s .station ∷ delivered n f from to (suc p) ss
+unfoldable pub delivered : ℕ → (ℕ → Bool) → Frame → ℕ → ℕ → ℕ → List Station → List Station
+delivered n hears f from to p [] = []
+delivered n hears f from to p (s ∷ ss) = handed n hears f from to p s .station ∷ delivered n hears f from to (suc p) ss
 
 -- the addressee's new frame, if it sends one
-unfoldable pub replyOf : Bench → Frame → ℕ → Dispatch
-replyOf b f to = handed (b .n) f (b .wire .from) to to (stationAt b to) .sent
+unfoldable pub replyOf : (ℕ → Bool) → Bench → Frame → ℕ → Dispatch
+replyOf hears b f to = handed (b .n) hears f (b .wire .from) to to (stationAt b to) .sent
 
--- the frame f to the station `to` is delivered
-unfoldable pub deliver : Bench → Frame → ℕ → Bench
-deliver b f to =
+-- the frame f to the station `to` is delivered to whoever hears it
+unfoldable pub deliverTo : (ℕ → Bool) → Bench → Frame → ℕ → Bench
+deliverTo hears b f to =
     record {
       n = b .n;
-      stations = delivered (b .n) f (b .wire .from) to 0 (b .stations);
-      wire = record { from = to; sent = replyOf b f to };
+      stations = delivered (b .n) hears f (b .wire .from) to 0 (b .stations);
+      wire = record { from = to; sent = replyOf hears b f to };
     }
+
+-- who hears a frame on a perfect wire: everybody but its sender
+abbrev pub others : ℕ → ℕ → Bool
+others from p = not (eqb p from)
+
+abbrev pub deliver : Bench → Frame → ℕ → Bench
+deliver b f to = deliverTo (others (b .wire .from)) b f to
 
 -- with no frame on the wire a step does nothing
 unfoldable pub stepOn : Bench → Dispatch → Bench
@@ -65,9 +68,13 @@ abbrev pub isNobody : Whom → Bool
 isNobody Nobody = true
 isNobody (Member p) = false
 
--- a station that does not wait and is not addressed, at a frame that names no failing station
-abbrev pub standsBy : Bool → State → ℕ → ℕ → Bool
-standsBy quiet state own to = pick quiet (pick (isWaiting state) false (not (eqb to own))) false
+-- a frame that names no failing station
+abbrev pub isQuiet : Frame → Bool
+isQuiet f = isNobody (failingOf f)
+
+-- which frames to `to` leave the station as it is: quiet ones, if it does not wait and is not addressed
+abbrev pub standsBy : Bool → ℕ → Station → Bool
+standsBy quiet to s = pick quiet (pick (isWaiting (stateOf s)) false (not (eqb to (s .own)))) false
 
 -- the first p positions have been handed the frame: the addressee's reply, once it is among them
 abbrev pub replyTo : ℕ → ℕ → Dispatch → Dispatch → Dispatch

@@ -25,28 +25,32 @@ unfoldable pub onWire : Wire → ℕ → Dispatch → Wire
 onWire w p Nothing = w
 onWire w p (Sent frame to) = record { from = p; sent = Sent frame to }
 
--- what the member p answers to its start; "R is 1"
-abbrev pub firstAnswer : ℕ → ℕ → Answer
-firstAnswer n p = startRule (made n 1 p)
+-- what the member p of a ring of n with a retry limit answers to its start
+abbrev pub firstAnswer : ℕ → ℕ → ℕ → Answer
+firstAnswer n limit p = startRule (made n limit p)
 
 -- the member p is made and starts
-unfoldable pub startAt : Bench → ℕ → Bench
-startAt b p =
+unfoldable pub startAt : ℕ → Bench → ℕ → Bench
+startAt limit b p =
     record {
       n = b .n;
-      stations = set (b .stations) p (firstAnswer (b .n) p .station);
-      wire = onWire (b .wire) p (firstAnswer (b .n) p .sent);
+      stations = set (b .stations) p (firstAnswer (b .n) limit p .station);
+      wire = onWire (b .wire) p (firstAnswer (b .n) limit p .sent);
     }
 
 -- the members below k start, from k - 1 down to 0
-unfoldable pub startDown : ℕ → Bench → Bench
-startDown zero b = b
-startDown (suc k) b = startDown k (startAt b k)
+unfoldable pub startDown : ℕ → ℕ → Bench → Bench
+startDown limit zero b = b
+startDown limit (suc k) b = startDown limit k (startAt limit b k)
 
 -- no station has started, and no frame is on the wire
 abbrev pub emptyBench : ℕ → Bench
 emptyBench n = record { n = n; stations = replicate 64 nobody; wire = record { from = 0; sent = Nothing } }
 
--- "stations start from N−1 down to 0"
-unfoldable pub ringOf : ℕ → Bench
-ringOf n = startDown (seats n) (emptyBench n)
+-- a ring of n stations with a retry limit: "stations start from N−1 down to 0"
+unfoldable pub ringWith : ℕ → ℕ → Bench
+ringWith n limit = startDown limit (seats n) (emptyBench n)
+
+-- the bench's own ring: "R is 1"
+abbrev pub ringOf : ℕ → Bench
+ringOf n = ringWith n 1

@@ -1,13 +1,10 @@
 -- Many steps in one call, with what they print: as many as the out buffer has room for.
-use mathlib.Core.Bool.{Bool, true}
 use mathlib.Core.List.{List}
 use Prim.Native.Nat.{ℕ, _+_, _/_}
-use lib.Dec.{ltb, eqb}
+use lib.Dec.{ltb}
 use lib.ListN.{length}
 use Rattle.parts.specs.Choose.{pick}
-use Rattle.station.specs.Stations.{stateOf}
-use Rattle.station.specs.declared.station.Station.{Station}
-use Rattle.bench.specs.Delivery.{standsBy, steps}
+use Rattle.bench.specs.Delivery.{steps}
 use Rattle.bench.specs.Runs.{frames, stepping}
 use Rattle.bench.specs.Text.{rowsText}
 use Rattle.bench.specs.declared.ring.Bench.{Bench}
@@ -27,7 +24,3 @@ stepsText k b = rowsText (frames b (stepping k))
 
 abbrev pub ran : Bench → ℕ → ℕ → Ran
 ran b k at = record { bench = steps k b; used = at + length (stepsText k b); done = k }
-
--- whom a delivery leaves as it is: the frame's sender, and whoever stands by
-abbrev pub leftAsIs : Station → Bool → ℕ → ℕ → ℕ → Bool
-leftAsIs s quiet p from to = pick (eqb p from) true (standsBy quiet (stateOf s) (s .own) to)

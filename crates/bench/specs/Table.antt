@@ -6,7 +6,6 @@ use lib.Dec.{ltb}
 use lib.ListN.{length, getD, set}
 use Rattle.parts.specs.Choose.{pick}
 use Rattle.parts.specs.Live.{seats}
-use Rattle.parts.specs.Frames.{failingOf}
 use Rattle.parts.specs.declared.frame.Dispatch.{Dispatch}
 use Rattle.parts.specs.declared.frame.Dispatch.the-variants.{Nothing, Sent}
 use Rattle.parts.specs.declared.frame.Frame.the-variants.{Transmit}
@@ -14,10 +13,10 @@ use Rattle.station.specs.Queue.{queueRule}
 use Rattle.station.specs.declared.station.Answer.{Answer}
 use Rattle.station.specs.declared.station.Station.{Station}
 use Rattle.bench.specs.Ring.{nobody}
-use Rattle.bench.specs.Delivery.{isNobody, steps}
+use Rattle.bench.specs.Delivery.{others, isQuiet, standsBy, steps}
 use Rattle.bench.specs.Rows.{rowsOn}
 use Rattle.bench.specs.Text.{rowsText}
-use Rattle.bench.specs.Running.{stepsText, leftAsIs}
+use Rattle.bench.specs.Running.{stepsText}
 use Rattle.bench.specs.declared.ring.Wire.{Wire}
 use Rattle.bench.specs.declared.ring.Bench.{Bench}
 use Rattle.bench.specs.declared.table.Handing.{Handing}
@@ -25,9 +24,17 @@ use Rattle.bench.specs.declared.table.Going.{Going}
 use Rattle.bench.specs.declared.table.Stepped.{Stepped}
 use Rattle.bench.specs.declared.table.QueuedIn.{QueuedIn}
 
+-- who hears what is handed round
+abbrev pub hears : Handing → ℕ → Bool
+hears h p = others (h .from) p
+
+-- whom it leaves as it is: who does not hear it, and whoever stands by
+abbrev pub leftAsIs : Station → ℕ → Handing → Bool
+leftAsIs s p h = pick (hears h p) (standsBy (h .quiet) (h .to) s) true
+
 -- whether the frame leaves the record at p as it is
 abbrev pub staysAt : List Station → Handing → ℕ → Bool
-staysAt ss h p = leftAsIs (getD ss p nobody) (h .quiet) p (h .from) (h .to)
+staysAt ss h p = leftAsIs (getD ss p nobody) p h
 
 -- of k records from the position p on, the first that the frame does not leave as it is, or the end
 unfoldable pub touchedIn : ℕ → List Station → Handing → ℕ → ℕ
@@ -41,7 +48,7 @@ benchIn g ss = record { n = g .n; stations = ss; wire = g .wire }
 abbrev pub handingBy : Going → Dispatch → Handing
 handingBy g Nothing = record { n = g .n; m = seats (g .n); frame = Transmit 0 0 0 0; quiet = true; from = 0; to = 0 }
 handingBy g (Sent frame to) =
-    record { n = g .n; m = seats (g .n); frame = frame; quiet = isNobody (failingOf frame); from = g .wire .from; to = to }
+    record { n = g .n; m = seats (g .n); frame = frame; quiet = isQuiet frame; from = g .wire .from; to = to }
 
 -- what is handed round in the next step
 abbrev pub handingOf : Going → Handing

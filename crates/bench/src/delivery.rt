@@ -1,17 +1,16 @@
 // Who is handed back as it was by a frame, and whose reply goes on the wire.
 ghost use mathlib.Core.Path.{_≡_};
-ghost use Rattle.parts.specs.Frames.{failingOf};
-ghost use Rattle.bench.specs.Delivery.{isNobody, standsBy, replyTo};
-ghost use Rattle.bench.specs.Running.{leftAsIs};
+ghost use Rattle.bench.specs.Delivery.{isQuiet, standsBy, replyTo};
+ghost use Rattle.bench.specs.Table.{hears, leftAsIs};
+use crate::table::Handing;
 use parts::frame::Dispatch;
 use parts::frame::Frame;
 use parts::frame::Whom;
-use parts::moves::State;
 use station::station::Station;
 
 // A frame that names no failing station.
 pub fn is_quiet(frame: Frame) -> bool
-    ensures { λ r. ⌜ r ≡ isNobody (failingOf frame) ⌝ }
+    ensures { λ r. ⌜ r ≡ isQuiet frame ⌝ }
 {
     let failing = plain_rules::heard::failing_of(frame);
     match failing {
@@ -21,28 +20,35 @@ pub fn is_quiet(frame: Frame) -> bool
 }
 
 // A station that does not wait and is not addressed, at a frame that names no failing station: it need not be touched.
-pub fn stands_by(quiet: bool, state: State, own: u8, to: u8) -> bool
-    ensures { λ r. ⌜ r ≡ standsBy quiet state own to ⌝ }
+pub fn stands_by(s: Station, quiet: bool, to: u8) -> bool
+    ensures { λ r. ⌜ r ≡ standsBy quiet to s ⌝ }
 {
     if !quiet {
         return false;
     }
+    let turn = s.turn;
+    let state = turn.state;
     if parts::moves::is_waiting(state) {
         return false;
     }
-    to != own
+    to != s.own
 }
 
-// Whom a delivery leaves as it is: the frame's sender, and whoever stands by.
-pub fn left_as_is(s: Station, quiet: bool, p: usize, from: u8, to: u8) -> bool
-    ensures { λ r. ⌜ r ≡ leftAsIs s quiet p from to ⌝ }
+// Who hears what is handed round: everybody but its sender.
+pub fn hears(h: Handing, p: usize) -> bool
+    ensures { λ r. ⌜ r ≡ hears h p ⌝ }
 {
-    if p == from as usize {
+    p != h.from as usize
+}
+
+// Whom it leaves as it is: who does not hear it, and whoever stands by.
+pub fn left_as_is(s: Station, p: usize, h: Handing) -> bool
+    ensures { λ r. ⌜ r ≡ leftAsIs s p h ⌝ }
+{
+    if !hears(h, p) {
         return true;
     }
-    let turn = s.turn;
-    let state = turn.state;
-    stands_by(quiet, state, s.own, to)
+    stands_by(s, h.quiet, h.to)
 }
 
 // The addressee's reply is kept, any other is not.

@@ -1,6 +1,6 @@
 // The bench: a table of stations and the frame on the wire; and how a ring begins.
 ghost use mathlib.Core.Path.{_≡_};
-ghost use Rattle.bench.specs.Ring.{onWire, ringOf};
+ghost use Rattle.bench.specs.Ring.{onWire, ringWith};
 use parts::frame::Dispatch;
 use station::station::Station;
 
@@ -28,9 +28,9 @@ pub fn put_on(w: Wire, p: u8, d: Dispatch) -> Wire
 }
 
 impl Bench {
-    // A ring of `n` members with a retry limit of 1, started from the last down to the first.
-    pub fn new(n: u8) -> Bench
-        ensures { λ r. ⌜ r ≡ ringOf n ⌝ }
+    // A ring of `n` members with the retry limit `limit`, started from the last down to the first.
+    pub fn new(n: u8, limit: u8) -> Bench
+        ensures { λ r. ⌜ r ≡ ringWith n limit ⌝ }
     {
         let nobody = Station::new(0, 0, 0);
         let mut stations = [nobody; 64];
@@ -42,7 +42,7 @@ impl Bench {
         while 0 < p {
             p -= 1;
             let own = p as u8;
-            let s = Station::new(n, 1, own);
+            let s = Station::new(n, limit, own);
             let a = s.start();
             let t = a.station;
             stations[p] = t;

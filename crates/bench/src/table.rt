@@ -5,15 +5,14 @@ ghost use Prim.Native.Nat.{_+_, _*_, _-_, _<_, _≤_};
 ghost use lib.ListN.{length, length as count, getD, set};
 ghost use Rattle.codec.specs.Octets.{laid};
 ghost use Rattle.parts.specs.Live.{seats};
-ghost use Rattle.parts.specs.Frames.{failingOf};
 ghost use Rattle.station.specs.Stations.{withTurn};
 ghost use Rattle.station.specs.Heard.{frameRule};
 ghost use Rattle.station.specs.Light.{lightRule};
 ghost use Rattle.station.specs.Queue.{queueRule};
 ghost use Rattle.bench.specs.Ring.{nobody};
-ghost use Rattle.bench.specs.Delivery.{isNobody, handed, delivered, steps};
+ghost use Rattle.bench.specs.Delivery.{isQuiet, handed, delivered, steps};
 ghost use Rattle.bench.specs.Running.{stepsText};
-ghost use Rattle.bench.specs.Table.{staysAt, touchedIn, handingOf, goesOn, benchIn, stepText, printed, wentOn, stepped, queuedIn};
+ghost use Rattle.bench.specs.Table.{hears, staysAt, touchedIn, handingOf, goesOn, benchIn, stepText, printed, wentOn, stepped, queuedIn};
 use crate::ring::Wire;
 use parts::frame::Dispatch;
 use parts::frame::Frame;
@@ -59,7 +58,7 @@ pub fn stays_at(table: &[Station], p: usize, h: Handing) -> bool
     ensures { λ r. ⌜ r ≡ staysAt (now (table .entry)) h p ⌝ }
 {
     let s = table[p];
-    crate::delivery::left_as_is(s, h.quiet, p, h.from, h.to)
+    crate::delivery::left_as_is(s, p, h)
 }
 
 // The first position from `p` on whose record the frame does not leave as it is, or the number of records.
@@ -120,11 +119,11 @@ pub fn hear_at(table: &mut [Station], p: usize, frame: Frame, from: u8, to: u8) 
     step_at(&mut *table, p, frame, from, to)
 }
 
-// A frame is handed to every other station; the addressee's new frame.
+// A frame is handed to every station that hears it; the addressee's new frame.
 pub fn hand(table: &mut [Station], h: Handing) -> Dispatch
-    requires { ⌜ (length (now table) ≡ 64) × ((h .m ≡ seats (h .n)) × (h .quiet ≡ isNobody (failingOf (h .frame)))) ⌝ }
-    ensures { λ r. ⌜ (r ≡ handed (h .n) (h .frame) (h .from) (h .to) (h .to) (getD (now (table .entry)) (h .to) nobody) .sent)
-        × (now (table .exit) ≡ delivered (h .n) (h .frame) (h .from) (h .to) 0 (now (table .entry))) ⌝ }
+    requires { ⌜ (length (now table) ≡ 64) × ((h .m ≡ seats (h .n)) × (h .quiet ≡ isQuiet (h .frame))) ⌝ }
+    ensures { λ r. ⌜ (r ≡ handed (h .n) (hears h) (h .frame) (h .from) (h .to) (h .to) (getD (now (table .entry)) (h .to) nobody) .sent)
+        × (now (table .exit) ≡ delivered (h .n) (hears h) (h .frame) (h .from) (h .to) 0 (now (table .entry))) ⌝ }
 {
     let mut reply = Dispatch::Nothing;
     let mut p: usize = 0;

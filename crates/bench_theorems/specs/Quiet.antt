@@ -29,10 +29,10 @@ use Rattle.bench.specs.declared.ring.Bench.{Bench}
 unfoldable pub offset : ℕ → ℕ → ℕ → ℕ
 offset n m p = (p + n - m) % n
 
--- a whole station at the position p of a ring of n; "R is 1"; every member is live
-pub record Member (n p : ℕ) (s : Station) : Type 0 where
+-- a whole station at the position p of a ring of n with a retry limit; every member is live
+pub record Member (n limit p : ℕ) (s : Station) : Type 0 where
   pub same-n : s .n ≡ n
-  pub limit : s .limit ≡ 1
+  pub same-limit : s .limit ≡ limit
   pub own : s .own ≡ p
   pub live : s .live ≡ full n
   pub whole : WholeStation s
@@ -87,11 +87,11 @@ longest n from (Information number priority channel length place) p = n + 2
 
 -- ---- all of it
 
--- the stations `at` the places of a ring of n, with the frame f on the wire
-pub record Picture (n : ℕ) (at : ℕ → Station) (from : ℕ) (f : Frame) (to : ℕ) : Type 0 where
+-- the stations `at` the places of a ring of n with a retry limit, and the frame f on the wire
+pub record Picture (n limit : ℕ) (at : ℕ → Station) (from : ℕ) (f : Frame) (to : ℕ) : Type 0 where
   pub some-members : 2 ≤ n
   pub most-members : n ≤ 64
-  pub members : (p : ℕ) → p < n → Member n p (at p)
+  pub members : (p : ℕ) → p < n → Member n limit p (at p)
   pub sender-member : from < n
   pub addressee-member : to < n
   pub another : to ≡ from → ⊥
@@ -105,9 +105,9 @@ pub record Picture (n : ℕ) (at : ℕ → Station) (from : ℕ) (f : Frame) (to
   pub handled : (p : ℕ) → p < n → Behind (numberOf f) (longest n from f p) (at p .turn .handled)
 
 -- a bench with a frame on the wire, of which the picture holds
-pub record Quiet (b : Bench) : Type 0 where
+pub record Quiet (limit : ℕ) (b : Bench) : Type 0 where
   pub table : length (b .stations) ≡ 64
   pub frame : Frame
   pub to : ℕ
   pub on-wire : b .wire .sent ≡ Sent frame to
-  pub picture : Picture (b .n) (stationAt b) (b .wire .from) frame to
+  pub picture : Picture (b .n) limit (stationAt b) (b .wire .from) frame to

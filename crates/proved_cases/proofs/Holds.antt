@@ -17,9 +17,9 @@ use Rattle.station.specs.Strike.{giveUpTo, giveUpAt, giveUpFlight}
 use Rattle.plain_rules.specs.Heard.{newly}
 use Rattle.station.specs.Queue.{accepted, queueRule}
 use Rattle.plain_rules.specs.Refusals.{queueRefusal}
-use Rattle.bench.specs.Ring.{nobody, onWire, startAt, startDown, ringOf}
+use Rattle.bench.specs.Ring.{nobody, onWire, startAt, startDown, ringWith}
 use Rattle.bench.specs.Calls.{queue}
-use Rattle.bench.specs.Delivery.{handed, delivered, replyOf, deliver, stepOn, step, steps}
+use Rattle.bench.specs.Delivery.{handed, delivered, replyOf, deliverTo, stepOn, step, steps}
 use Rattle.bench.specs.Rows.{rowOf, rowOn}
 use Rattle.bench.specs.Runs.{afterEvent, composed, final, frames, stepping}
 use Rattle.bench.specs.Text.{width, decimal, cell, frontText, endsText, backText, rowText, rowsText, answerText}
@@ -29,5 +29,5 @@ use Rattle.waiting.specs.Waiting.{own, before, shorts, octetsOnWire}
 use Rattle.proved_cases.specs.Cases.{Case, cases}
 
 pub all-hold : map (λ (c : Case). c .given) cases ≡ map (λ (c : Case). c .page) cases
-unfolding cases bits addressesOf badAddress position ringRefusal ringIn readRing addressOctets ringFile pick allOf every full after seek successor pack pushed fits only splitBy betterOf bestOf best hasPlace freeFrom lowestFree addUpTo head moved unless started startRule startRound sendHead grant returned cleared raised passOn onToken reply heardRefusal acknowledges acknowledged landed acknowledge strikeOther strikeHeard failed isLast nothingMore receive stored handle respond heard frameRule newly giveUpTo giveUpAt giveUpFlight queueRefusal accepted queueRule nobody onWire startAt startDown ringOf queue handed delivered replyOf deliver stepOn step steps rowOf rowOn afterEvent composed final frames stepping width decimal cell frontText endsText backText rowText rowsText answerText words valueFrom isNumber same shaped lineOfWords lineOf linesOf opens does prints printed output own before shorts octetsOnWire
+unfolding cases bits addressesOf badAddress position ringRefusal ringIn readRing addressOctets ringFile pick allOf every full after seek successor pack pushed fits only splitBy betterOf bestOf best hasPlace freeFrom lowestFree addUpTo head moved unless started startRule startRound sendHead grant returned cleared raised passOn onToken reply heardRefusal acknowledges acknowledged landed acknowledge strikeOther strikeHeard failed isLast nothingMore receive stored handle respond heard frameRule newly giveUpTo giveUpAt giveUpFlight queueRefusal accepted queueRule nobody onWire startAt startDown ringWith queue handed delivered replyOf deliverTo stepOn step steps rowOf rowOn afterEvent composed final frames stepping width decimal cell frontText endsText backText rowText rowsText answerText words valueFrom isNumber same shaped lineOfWords lineOf linesOf opens does prints printed output own before shorts octetsOnWire
 all-hold = refl

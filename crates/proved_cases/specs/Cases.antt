@@ -62,7 +62,7 @@ bench script = output (lines script)
 -- the short frames and the octets before a message's own frame, in the run that reaches the bound on a ring of n
 waits : ℕ → List ℕ
 waits n =
-    let b = atQueue n (queued (n - 1) 1 5 0 1492 ∷ []) in
+    let b = atQueue n 1 (queued (n - 1) 1 5 0 1492 ∷ []) in
     let rows = before (spotFor b 0) (queue b 0 1 9 0 0 .bench) (stepping (2 * n + 3)) in
     shorts rows ∷ octetsOnWire rows ∷ []
 

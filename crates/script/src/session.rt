@@ -78,7 +78,7 @@ fn open(n: usize, out: &mut [u8], at: usize) -> Acted
     requires { ⌜ (n ≤ 64) × (at + 64 ≤ length (now out)) ⌝ }
     ensures { λ r. ⌜ (r ≡ actedBy (onBench (ringOf n)) (ringText n) at 0) × (now (out .exit) ≡ laid (now (out .entry)) at (ringText n)) ⌝ }
 {
-    let bench = Bench::new(n as u8);
+    let bench = Bench::new(n as u8, 1);
     let wire = bench.wire;
     let a = bench::text::put_heading(&mut *out, at);
     let used = bench::text::put_wire(&mut *out, a, wire);
@@ -96,7 +96,7 @@ impl Session {
     pub fn new() -> Session
         ensures { λ r. ⌜ r ≡ unbegun ⌝ }
     {
-        let bench = Bench::new(0);
+        let bench = Bench::new(0, 1);
         Session {
             begun: false,
             bench,

@@ -11,7 +11,7 @@ use Rattle.parts.specs.Messages.{all, flies, lowestFree}
 use Rattle.parts.specs.Frames.{flight}
 use Rattle.station.specs.Stations.{awaitedOf}
 use Rattle.parts.specs.declared.list.Message.{Message}
-use Rattle.bench.specs.Ring.{stationAt, ringOf}
+use Rattle.bench.specs.Ring.{stationAt, ringWith}
 use Rattle.bench.specs.Delivery.{step}
 use Rattle.bench.specs.Calls.{queue}
 use Rattle.bench.specs.Rows.{rowsOn}
@@ -102,8 +102,8 @@ octetsOnWire (r ∷ rs) = r .octets + octetsOnWire rs
 -- ---- the two statements
 
 -- the events of a run: a bench that was started and led by any events, the queue call, and what comes after it
-abbrev pub atQueue : ℕ → List Event → Bench
-atQueue n es = final (ringOf n) es
+abbrev pub atQueue : ℕ → ℕ → List Event → Bench
+atQueue n limit es = final (ringWith n limit) es
 
 -- what demand 3 promises of a run `after` the acceptance
 pub record WithinBound (n : ℕ) (x : Spot) (b : Bench) (after : List Event) : Type 0 where

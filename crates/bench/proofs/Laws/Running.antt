@@ -16,7 +16,7 @@ use Rattle.parts.specs.declared.frame.Dispatch.the-variants.{Nothing, Sent}
 use Rattle.station.specs.declared.station.Station.{Station}
 use Rattle.parts.proofs.Laws.Choose.{pick-true, pick-false}
 use Rattle.bench.specs.Ring.{stationAt}
-use Rattle.bench.specs.Delivery.{handed, delivered, replyOf, deliver, stepOn, step, steps}
+use Rattle.bench.specs.Delivery.{handed, delivered, replyOf, deliverTo, others, stepOn, step, steps}
 use Rattle.bench.specs.Rows.{rowOf, rowOn, rowsOn}
 use Rattle.bench.specs.Runs.{frames, stepping}
 use Rattle.bench.specs.Text.{rowText, rowsText}
@@ -30,9 +30,10 @@ use Rattle.bench.proofs.Laws.Steps.{steps-more, steps-text-more}
 
 -- a delivered frame is a step
 pub step-sent : (b : Bench) (f : Frame) (to : ℕ) (cur : List Station) (reply : Dispatch) → b .wire .sent ≡ Sent f to
-    → cur ≡ delivered (b .n) f (b .wire .from) to 0 (b .stations) → reply ≡ handed (b .n) f (b .wire .from) to to (stationAt b to) .sent
+    → cur ≡ delivered (b .n) (others (b .wire .from)) f (b .wire .from) to 0 (b .stations)
+    → reply ≡ handed (b .n) (others (b .wire .from)) f (b .wire .from) to to (stationAt b to) .sent
     → benchOf (b .n) cur (record { from = to; sent = reply }) ≡ step b
-unfolding step stepOn deliver replyOf
+unfolding step stepOn deliverTo replyOf
 step-sent b f to cur reply e c r = rw (c, r) (sym (ap (stepOn b) e))
 
 -- ---- how much is printed

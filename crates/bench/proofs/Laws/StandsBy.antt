@@ -10,7 +10,6 @@ use Rattle.parts.specs.Messages.{none}
 use Rattle.parts.specs.Frames.{numberOf, failingOf}
 use Rattle.station.specs.Stations.{stateOf, answered, moved, unless}
 use Rattle.station.specs.Heard.{acknowledged, acknowledge, failed, nothingMore, silent, respond, heard, checks, frameRule}
-use Rattle.parts.specs.declared.moves.State.{State}
 use Rattle.parts.specs.declared.moves.Event.{Event}
 use Rattle.parts.specs.declared.frame.Whom.{Whom}
 use Rattle.parts.specs.declared.frame.Whom.the-variants.{Nobody, Member}
@@ -20,8 +19,8 @@ use Rattle.parts.specs.declared.frame.Dispatch.the-variants.{Nothing, Sent}
 use Rattle.station.specs.declared.station.Station.{Station}
 use Rattle.station.specs.declared.station.Answer.{Answer}
 use Rattle.station.specs.declared.rules.strike.Struck.{Struck}
-use Rattle.parts.proofs.Laws.Choose.{pick-true, pick-false, pick-and}
-use Rattle.bench.specs.Delivery.{isNobody, standsBy}
+use Rattle.parts.proofs.Laws.Choose.{pick-true, pick-false}
+use Rattle.bench.specs.Delivery.{isNobody}
 
 -- a station handed back as it was, and nothing sent
 pub record Untouched (s : Station) (a : Answer) : Type 0 where
@@ -85,10 +84,7 @@ module _ (s : Station) (f : Frame) (from to : ℕ) (w : isWaiting (stateOf s) �
       (unless-untouched s (checks s from to) (heard s f from to)
       (rw heard-by (record { same = refl; silent = refl })))
 
--- the test that the code makes, taken apart
-pub stands-quiet : (quiet : Bool) (st : State) (own to : ℕ) → standsBy quiet st own to ≡ true → quiet ≡ true
-stands-quiet quiet st own to e = pick-and e .0
-
+-- the definition taken apart
 pub not-first : {b c : Bool} → pick b false c ≡ true → (b ≡ false) × (c ≡ true)
 unfolding pick
 not-first {b} {c} = go b
@@ -96,9 +92,3 @@ not-first {b} {c} = go b
     go : (b : Bool) → pick b false c ≡ true → (b ≡ false) × (c ≡ true)
     go true e = absurd (false≢true e)
     go false e = (refl, e)
-
-pub stands-idle : (quiet : Bool) (st : State) (own to : ℕ) → standsBy quiet st own to ≡ true → isWaiting st ≡ false
-stands-idle quiet st own to e = not-first (pick-and e .1) .0
-
-pub stands-elsewhere : (quiet : Bool) (st : State) (own to : ℕ) → standsBy quiet st own to ≡ true → not (eqb to own) ≡ true
-stands-elsewhere quiet st own to e = not-first (pick-and e .1) .1

@@ -9,7 +9,6 @@ use lib.ListN.{length, getD}
 use borrow.Author.Tests.{lt-ltb, le-ltb, ltb-true, ltb-false}
 use Rattle.codec.specs.Octets.{laid}
 use Rattle.parts.specs.Live.{seats}
-use Rattle.parts.specs.Frames.{failingOf}
 use Rattle.parts.specs.declared.frame.Frame.{Frame}
 use Rattle.parts.specs.declared.frame.Frame.the-variants.{Transmit}
 use Rattle.parts.specs.declared.frame.Dispatch.{Dispatch}
@@ -17,11 +16,11 @@ use Rattle.parts.specs.declared.frame.Dispatch.the-variants.{Nothing, Sent}
 use Rattle.parts.proofs.Laws.Choose.{pick-true, pick-false, pick-and}
 use Rattle.station.specs.declared.station.Station.{Station}
 use Rattle.bench.specs.Ring.{nobody}
-use Rattle.bench.specs.Delivery.{isNobody, handed, delivered, step, steps}
+use Rattle.bench.specs.Delivery.{isQuiet, handed, delivered, step, steps}
 use Rattle.bench.specs.Rows.{rowsOn}
 use Rattle.bench.specs.Text.{rowsText}
 use Rattle.bench.specs.Running.{stepsText, ran}
-use Rattle.bench.specs.Table.{benchIn, handingBy, handingOf, isSent, goesOn, stepText, printed, wentOn, stepped}
+use Rattle.bench.specs.Table.{hears, benchIn, handingBy, handingOf, isSent, goesOn, stepText, printed, wentOn, stepped}
 use Rattle.bench.specs.declared.ring.Wire.{Wire}
 use Rattle.bench.specs.declared.ring.Bench.{Bench}
 use Rattle.bench.specs.declared.running.Ran.{Ran}
@@ -48,7 +47,7 @@ goingOf n wire most k used = record { n = n; wire = wire; most = most; k = k; us
 -- ---- what is handed round
 
 module _ (g : Going) (m : ℕ) (size : m ≡ seats (g .n)) where
-  pub handing-sent : (f : Frame) (to : ℕ) (quiet : Bool) → g .wire .sent ≡ Sent f to → quiet ≡ isNobody (failingOf f)
+  pub handing-sent : (f : Frame) (to : ℕ) (quiet : Bool) → g .wire .sent ≡ Sent f to → quiet ≡ isQuiet f
       → handingWith (g .n) m f quiet (g .wire .from) to ≡ handingOf g
   handing-sent f to quiet e q = rw (size, q) (ap (handingBy g) (sym e))
 
@@ -56,10 +55,10 @@ module _ (g : Going) (m : ℕ) (size : m ≡ seats (g .n)) where
   handing-none e = rw size (ap (handingBy g) (sym e))
 
 -- as `hand` asks for it
-pub handing-asks : (g : Going) (h : Handing) → h ≡ handingOf g → (h .m ≡ seats (h .n)) × (h .quiet ≡ isNobody (failingOf (h .frame)))
+pub handing-asks : (g : Going) (h : Handing) → h ≡ handingOf g → (h .m ≡ seats (h .n)) × (h .quiet ≡ isQuiet (h .frame))
 handing-asks g h e = rw e (go (g .wire .sent))
   where
-    go : (d : Dispatch) → (handingBy g d .m ≡ seats (handingBy g d .n)) × (handingBy g d .quiet ≡ isNobody (failingOf (handingBy g d .frame)))
+    go : (d : Dispatch) → (handingBy g d .m ≡ seats (handingBy g d .n)) × (handingBy g d .quiet ≡ isQuiet (handingBy g d .frame))
     go Nothing = (refl, refl)
     go (Sent f to) = (refl, refl)
 
@@ -94,8 +93,8 @@ OneDone g ss out r ss₁ out₁ = (r ≡ wentOn g ss) × ((ss₁ ≡ steps 1 (be
 -- the frame is handed round, and the new one printed
 pub one-step : (g : Going) (h : Handing) (ss ss₁ : List Station) (reply : Dispatch) (r : Going) (out out₁ : List ℕ)
     → goesOn g ≡ true → h ≡ handingOf g
-    → reply ≡ handed (h .n) (h .frame) (h .from) (h .to) (h .to) (getD ss (h .to) nobody) .sent
-    → ss₁ ≡ delivered (h .n) (h .frame) (h .from) (h .to) 0 ss
+    → reply ≡ handed (h .n) (hears h) (h .frame) (h .from) (h .to) (h .to) (getD ss (h .to) nobody) .sent
+    → ss₁ ≡ delivered (h .n) (hears h) (h .frame) (h .from) (h .to) 0 ss
     → r ≡ printed g (h .to) reply → out₁ ≡ laid out (g .used) (stepText (h .to) reply)
     → OneDone g ss out r ss₁ out₁
 one-step g h ss ss₁ reply r out out₁ on e er es ep eo =
@@ -106,8 +105,8 @@ one-step g h ss ss₁ reply r out out₁ on e er es ep eo =
     let eh : h ≡ handingBy g (Sent f to) = e ∙ ap (handingBy g) sent in
     let et : h .to ≡ to = ap (λ (x : Handing). x .to) eh in
     let done : benchOf (g .n) ss₁ (wireOf to reply) ≡ steps 1 b =
-    step-sent b f to ss₁ reply sent (es ∙ ap (λ (x : Handing). delivered (x .n) (x .frame) (x .from) (x .to) 0 ss) eh)
-    (er ∙ ap (λ (x : Handing). handed (x .n) (x .frame) (x .from) (x .to) (x .to) (getD ss (x .to) nobody) .sent) eh)
+    step-sent b f to ss₁ reply sent (es ∙ ap (λ (x : Handing). delivered (x .n) (hears x) (x .frame) (x .from) (x .to) 0 ss) eh)
+    (er ∙ ap (λ (x : Handing). handed (x .n) (hears x) (x .frame) (x .from) (x .to) (x .to) (getD ss (x .to) nobody) .sent) eh)
     ∙ sym (steps-one b) in
     let line : stepText (h .to) reply ≡ stepsText 1 b =
     ap (λ (t : ℕ). stepText t reply) et

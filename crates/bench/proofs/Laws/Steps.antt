@@ -5,7 +5,7 @@ use Prim.Native.Nat.{ℕ, zero, suc, _+_}
 use native.Mathlib.Nat.{zero-add, suc-add}
 use Rattle.parts.specs.declared.frame.Dispatch.{Dispatch}
 use Rattle.parts.specs.declared.frame.Dispatch.the-variants.{Nothing, Sent}
-use Rattle.bench.specs.Delivery.{deliver, stepOn, step, steps}
+use Rattle.bench.specs.Delivery.{deliverTo, stepOn, step, steps}
 use Rattle.bench.specs.Rows.{rowOn, rowsOn}
 use Rattle.bench.specs.Runs.{afterEvent, composed, frames, stepping}
 use Rattle.bench.specs.Text.{rowText, rowsText}
@@ -52,7 +52,7 @@ text-one b = steps-text-more 0 b ∙ ap (λ (c : Bench). rowsText (rowsOn (step 
 -- ---- a step keeps the ring's size
 
 step-size : (b : Bench) → step b .n ≡ b .n
-unfolding step stepOn deliver
+unfolding step stepOn deliverTo
 step-size b = go (b .wire .sent)
   where
     go : (d : Dispatch) → stepOn b d .n ≡ b .n

@@ -7,14 +7,13 @@ use native.Mathlib.Numerals.{add-one}
 use native.Mathlib.Omega.{arith}
 use lib.ListN.{length, getD, set}
 use Rattle.parts.specs.Live.{seats}
-use Rattle.parts.specs.Frames.{failingOf}
 use Rattle.station.specs.Heard.{frameRule}
 use Rattle.parts.specs.declared.frame.Dispatch.{Dispatch}
 use Rattle.station.specs.declared.station.Station.{Station}
 use Rattle.parts.proofs.Laws.Choose.{pick-true, pick-false}
 use Rattle.bench.specs.Ring.{nobody}
-use Rattle.bench.specs.Delivery.{isNobody, replyTo}
-use Rattle.bench.specs.Table.{staysAt, touchedIn}
+use Rattle.bench.specs.Delivery.{isQuiet, replyTo}
+use Rattle.bench.specs.Table.{hears, staysAt, touchedIn}
 use Rattle.bench.specs.declared.table.Handing.{Handing}
 use Rattle.bench.proofs.Laws.Passing.{Passed}
 use Rattle.bench.proofs.Laws.Turns.{turn-left, turn-heard}
@@ -77,30 +76,30 @@ module _ (ss : List Station) (h : Handing) where
 
 -- ---- the handing
 
-module _ (h : Handing) (quiet : h .quiet ≡ isNobody (failingOf (h .frame))) (old cur : List Station) (reply : Dispatch) where
+module _ (h : Handing) (quiet : h .quiet ≡ isQuiet (h .frame)) (old cur : List Station) (reply : Dispatch) where
   -- whoever the search goes over is passed
-  pub passed-over : (k p : ℕ) → Passed (h .n) (h .frame) (h .from) (h .to) old cur reply p
-      → Passed (h .n) (h .frame) (h .from) (h .to) old cur reply (touchedIn k cur h p)
+  pub passed-over : (k p : ℕ) → Passed (h .n) (hears h) (h .frame) (h .from) (h .to) old cur reply p
+      → Passed (h .n) (hears h) (h .frame) (h .from) (h .to) old cur reply (touchedIn k cur h p)
   passed-over zero p w = rw (touched-none cur h p) w
   passed-over (suc k) p w = go (passed-over k (suc p)) (staysAt cur h p) refl
     where
-      go : (Passed (h .n) (h .frame) (h .from) (h .to) old cur reply (suc p) → Passed (h .n) (h .frame) (h .from) (h .to) old cur reply (touchedIn k cur h (suc p)))
-          → (b : Bool) → staysAt cur h p ≡ b → Passed (h .n) (h .frame) (h .from) (h .to) old cur reply (touchedIn (suc k) cur h p)
+      go : (Passed (h .n) (hears h) (h .frame) (h .from) (h .to) old cur reply (suc p) → Passed (h .n) (hears h) (h .frame) (h .from) (h .to) old cur reply (touchedIn k cur h (suc p)))
+          → (b : Bool) → staysAt cur h p ≡ b → Passed (h .n) (hears h) (h .frame) (h .from) (h .to) old cur reply (touchedIn (suc k) cur h p)
       go on true e =
           rw (touched-on cur h k p e)
           (on
-          (subst (λ (j : ℕ). Passed (h .n) (h .frame) (h .from) (h .to) old cur reply j) (add-one p)
-          (turn-left (h .n) (h .frame) (h .from) (h .to) old cur reply p w (getD cur p nobody) refl (h .quiet) (staysAt cur h p) quiet refl e)))
+          (subst (λ (j : ℕ). Passed (h .n) (hears h) (h .frame) (h .from) (h .to) old cur reply j) (add-one p)
+          (turn-left (h .n) (hears h) (h .frame) (h .from) (h .to) old cur reply p w (h .quiet) quiet e)))
       go on false e = rw (touched-here cur h k p e) w
 
   -- what a turn of the handing knows once the next record is found at t
   pub record Found (m p t : ℕ) : Type 0 where
     pub from : p ≤ t
     pub upto : t ≤ m
-    pub passed : Passed (h .n) (h .frame) (h .from) (h .to) old cur reply t
+    pub passed : Passed (h .n) (hears h) (h .frame) (h .from) (h .to) old cur reply t
     pub touched : t < m → staysAt cur h t ≡ false
 
-  pub finds : (m p t : ℕ) → p ≤ m → Passed (h .n) (h .frame) (h .from) (h .to) old cur reply p → t ≡ touchedIn (m - p) cur h p → Found m p t
+  pub finds : (m p t : ℕ) → p ≤ m → Passed (h .n) (hears h) (h .frame) (h .from) (h .to) old cur reply p → t ≡ touchedIn (m - p) cur h p → Found m p t
   finds m p t most w e =
       let w′ = touched-ends cur h (m - p) p in
       let a : p ≤ touchedIn (m - p) cur h p = w′ .from in
@@ -117,8 +116,8 @@ module _ (h : Handing) (quiet : h .quiet ≡ isNobody (failingOf (h .frame))) (o
       → sent ≡ frameRule (getD cur t nobody) (h .frame) (h .from) (h .to) .sent
       → ws ≡ set cur t (frameRule (getD cur t nobody) (h .frame) (h .from) (h .to) .station)
       → next ≡ replyTo t (h .to) sent reply
-      → Passed (h .n) (h .frame) (h .from) (h .to) old ws next (t + 1)
+      → Passed (h .n) (hears h) (h .frame) (h .from) (h .to) old ws next (t + 1)
   turn-hand m p t members table most w less sent next ws es ew en =
       rw ew
-      (turn-heard (h .n) (h .frame) (h .from) (h .to) old cur reply t (w .passed) (getD cur t nobody) refl (h .quiet) (staysAt cur h t) quiet refl (w .touched less)
+      (turn-heard (h .n) (hears h) (h .frame) (h .from) (h .to) old cur reply t (w .passed) (h .quiet) quiet (w .touched less)
       (frameRule (getD cur t nobody) (h .frame) (h .from) (h .to)) next (omega arith) (omega arith) refl (en ∙ ap (λ (d : Dispatch). replyTo t (h .to) d reply) es))

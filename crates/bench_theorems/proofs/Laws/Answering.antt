@@ -32,23 +32,23 @@ abbrev pub view : ℕ → ℕ → Best → Sight
 view n p h = record { own = p; live = full n; next = after n p; head = h }
 
 -- nothing is sent, and the station is Idle
-pub record Silent (n p : ℕ) (s : Station) (a : Answer) : Type 0 where
+pub record Silent (n limit p : ℕ) (s : Station) (a : Answer) : Type 0 where
   pub number : a .number ≡ 0
   pub sent : a .sent ≡ Nothing
   pub nobody-struck : a .struck ≡ Nobody
   pub none-gone : a .gone ≡ none
-  pub member : Member n p (a .station)
+  pub member : Member n limit p (a .station)
   pub at-rest : stateOf (a .station) ≡ Idle
   pub same-handled : a .station .turn .handled ≡ s .turn .handled
   pub same-head : head (a .station) ≡ head s
 
 -- the reply is sent and awaited, and the frame is recorded as handled
-pub record Answering (n p : ℕ) (f : Frame) (s : Station) (a : Answer) : Type 0 where
+pub record Answering (n limit p : ℕ) (f : Frame) (s : Station) (a : Answer) : Type 0 where
   pub number : a .number ≡ 0
   pub sent : a .sent ≡ reply (view n p (head s)) f
   pub nobody-struck : a .struck ≡ Nobody
   pub none-gone : a .gone ≡ none
-  pub member : Member n p (a .station)
+  pub member : Member n limit p (a .station)
   pub waiting : stateOf (a .station) ≡ Waiting
   pub awaited : awaitedOf (a .station) ≡ a .sent
   pub handled : a .station .turn .handled ≡ Last (numberOf f)
@@ -59,15 +59,15 @@ sight-view n p h s two most m a b c d =
     let next : successor (s .live) (s .n) (s .own) ≡ after n p = rw (c, a, b) (full-successor n p two most m) in
     λ i. record { own = b i; live = c i; next = next i; head = d i }
 
-module _ {n p : ℕ} {s : Station} {f : Frame} {from to : ℕ} (h : Hears n p s f from to) where
+module _ {n limit p : ℕ} {s : Station} {f : Frame} {from to : ℕ} (h : Hears n limit p s f from to) where
   kept-whole : WholeStation (frameRule s f from to .station)
   kept-whole = frame-keeps-whole s f from to (ap (λ (k : ℕ). fit k f) (h .member .same-n) ∙ h .fits) (h .member .whole)
 
-  pub stays-silent : (to ≡ p → ⊥) → Silent n p s (frameRule s f from to)
+  pub stays-silent : (to ≡ p → ⊥) → Silent n limit p s (frameRule s f from to)
   stays-silent o =
       let e = silent-is h o in
       let r = rested (h .listens) in
-      subst (Silent n p s) (sym e)
+      subst (Silent n limit p s) (sym e)
       (record {
         number = refl;
         sent = refl;
@@ -76,7 +76,7 @@ module _ {n p : ℕ} {s : Station} {f : Frame} {from to : ℕ} (h : Hears n p s 
         member =
             record {
               same-n = r .seat .same-n ∙ h .member .same-n;
-              limit = r .seat .same-limit ∙ h .member .limit;
+              same-limit = r .seat .same-limit ∙ h .member .same-limit;
               own = r .seat .same-own ∙ h .member .own;
               live = r .seat .same-live ∙ h .member .live;
               whole = subst (λ (a : Answer). WholeStation (a .station)) e kept-whole;
@@ -86,7 +86,7 @@ module _ {n p : ℕ} {s : Station} {f : Frame} {from to : ℕ} (h : Hears n p s 
         same-head = head-acknowledged (h .listens);
       })
 
-  pub gives-answer : to ≡ p → isLast (s .turn .handled) (numberOf f) ≡ false → Answering n p f s (frameRule s f from to)
+  pub gives-answer : to ≡ p → isLast (s .turn .handled) (numberOf f) ≡ false → Answering n limit p f s (frameRule s f from to)
   gives-answer q l =
       let e = answer-is h q l in
       let t : Station = acknowledge s from (numberOf f) in
@@ -98,7 +98,7 @@ module _ {n p : ℕ} {s : Station} {f : Frame} {from to : ℕ} (h : Hears n p s 
       let same-flight : flight (awaitedOf (stored t from f .station)) ≡ flight (awaitedOf t) = ap (λ (x : Turn). flight (x .awaited)) (u .same-turn) in
       let head-is : head (stored t from f .station) ≡ head s =
       head-same t (stored t from f .station) (u .same-sends) same-flight ∙ head-acknowledged (h .listens) in
-      subst (Answering n p f s) (sym e)
+      subst (Answering n limit p f s) (sym e)
       (record {
         number = refl;
         sent = ap (λ (v : Sight). reply v f) (sight-view n p (head s) (stored t from f .station) (h .some-members) (h .most-members) (h .place) n-is own-is live-is head-is);
@@ -107,7 +107,7 @@ module _ {n p : ℕ} {s : Station} {f : Frame} {from to : ℕ} (h : Hears n p s 
         member =
             record {
               same-n = n-is;
-              limit = u .same-limit ∙ r .seat .same-limit ∙ h .member .limit;
+              same-limit = u .same-limit ∙ r .seat .same-limit ∙ h .member .same-limit;
               own = own-is;
               live = live-is;
               whole = subst (λ (a : Answer). WholeStation (a .station)) e kept-whole;

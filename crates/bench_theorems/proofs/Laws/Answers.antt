@@ -63,8 +63,8 @@ stands-waits e (at-rest o x i) = absurd (o e)
 
 -- ---- what each answers
 
-module _ {n : ℕ} {at : ℕ → Station} {from : ℕ} {f : Frame} {to : ℕ} (w : Picture n at from f to) where
-  pub hears-at : (p : ℕ) → p < n → (p ≡ from → ⊥) → Hears n p (at p) f from to
+module _ {n limit : ℕ} {at : ℕ → Station} {from : ℕ} {f : Frame} {to : ℕ} (w : Picture n limit at from f to) where
+  pub hears-at : (p : ℕ) → p < n → (p ≡ from → ⊥) → Hears n limit p (at p) f from to
   hears-at p h o =
       record {
         some-members = w .some-members;
@@ -80,14 +80,14 @@ module _ {n : ℕ} {at : ℕ → Station} {from : ℕ} {f : Frame} {to : ℕ} (w
         fits = w .fits;
       }
 
-  pub silent-at : (p : ℕ) → p < n → (p ≡ from → ⊥) → (p ≡ to → ⊥) → Silent n p (at p) (frameRule (at p) f from to)
+  pub silent-at : (p : ℕ) → p < n → (p ≡ from → ⊥) → (p ≡ to → ⊥) → Silent n limit p (at p) (frameRule (at p) f from to)
   silent-at p h o x = stays-silent (hears-at p h o) (λ e. x (sym e))
 
   -- the addressee has not handled the frame
   pub fresh : isLast (at to .turn .handled) (numberOf f) ≡ false
   fresh = not-last (w .handled to (w .addressee-member)) (omega (arith, longest-below n from f to (w .some-members) (w .fits), w .most-members))
 
-  pub answer-at : Answering n to f (at to) (frameRule (at to) f from to)
+  pub answer-at : Answering n limit to f (at to) (frameRule (at to) f from to)
   answer-at = gives-answer (hears-at to (w .addressee-member) (w .another)) refl fresh
 
   pub reply-at : Replied n from f to (head (at to)) (reply (view n to (head (at to))) f)

@@ -22,7 +22,7 @@ pub record Proper (n p : ℕ) (f : Frame) (to : ℕ) : Type 0 where
   pub member : to < n
   pub another : to ≡ p → ⊥
 
-module _ {n p : ℕ} {s : Station} (m : Member n p s) {f : Frame} {to : ℕ} (e : awaitedOf s ≡ Sent f to) where
+module _ {n limit p : ℕ} {s : Station} (m : Member n limit p s) {f : Frame} {to : ℕ} (e : awaitedOf s ≡ Sent f to) where
   good : awaitedGood (stateOf s) n p (s .sends) (Sent f to) ≡ true
   good =
       subst (λ (d : Dispatch). awaitedGood (stateOf s) n p (s .sends) d ≡ true) e

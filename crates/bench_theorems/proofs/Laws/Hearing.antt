@@ -80,11 +80,11 @@ stored-storing s from (Information number priority channel length place) = recei
 -- ---- the frame heard
 
 -- a member at p hears a frame with no failing station from another member, Idle or acknowledged by it
-pub record Hears (n p : ℕ) (s : Station) (f : Frame) (from to : ℕ) : Type 0 where
+pub record Hears (n limit p : ℕ) (s : Station) (f : Frame) (from to : ℕ) : Type 0 where
   pub some-members : 2 ≤ n
   pub most-members : n ≤ 64
   pub place : p < n
-  pub member : Member n p s
+  pub member : Member n limit p s
   pub listens : Listens from (numberOf f) s
   pub sender : from < n
   pub addressee : to < n
@@ -93,7 +93,7 @@ pub record Hears (n p : ℕ) (s : Station) (f : Frame) (from to : ℕ) : Type 0 
   pub nobody : failingOf f ≡ Nobody
   pub fits : fit n f ≡ true
 
-module _ {n p : ℕ} {s : Station} {f : Frame} {from to : ℕ} (h : Hears n p s f from to) where
+module _ {n limit p : ℕ} {s : Station} {f : Frame} {from to : ℕ} (h : Hears n limit p s f from to) where
   -- the station once it is acknowledged
   abbrev t : Station
   t = acknowledge s from (numberOf f)

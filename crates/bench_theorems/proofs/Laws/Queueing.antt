@@ -38,10 +38,10 @@ pub record Still (s t : Station) : Type 0 where
   pub whole : WholeStation t
 
 module _
-    {n : ℕ} {at : ℕ → Station} {from : ℕ} {f : Frame} {to : ℕ} (w : Picture n at from f to) (later : ℕ → Station)
+    {n limit : ℕ} {at : ℕ → Station} {from : ℕ} {f : Frame} {to : ℕ} (w : Picture n limit at from f to) (later : ℕ → Station)
     (still : (p : ℕ) → p < n → Still (at p) (later p))
   where
-    pub picture-still : Picture n later from f to
+    pub picture-still : Picture n limit later from f to
     picture-still =
         record {
           some-members = w .some-members;
@@ -51,7 +51,7 @@ module _
               let k = still p h .keeps in
               record {
                 same-n = k .same-n ∙ m .same-n;
-                limit = k .same-limit ∙ m .limit;
+                same-limit = k .same-limit ∙ m .same-limit;
                 own = k .same-own ∙ m .own;
                 live = k .same-live ∙ m .live;
                 whole = still p h .whole;
@@ -72,7 +72,7 @@ module _
 
 -- ---- the bench
 
-module _ (b : Bench) (q : Quiet b) (p : ℕ) (place : p < b .n) (s : Station) (still : Still (stationAt b p) s) where
+module _ {limit : ℕ} (b : Bench) (q : Quiet limit b) (p : ℕ) (place : p < b .n) (s : Station) (still : Still (stationAt b p) s) where
   fits-table : p < length (b .stations)
   fits-table = omega (arith, q .table, q .picture .most-members)
 
@@ -87,7 +87,7 @@ module _ (b : Bench) (q : Quiet b) (p : ℕ) (place : p < b .n) (s : Station) (s
           subst (Still (stationAt b i)) (sym (getD-set-other (b .stations) p i s nobody (eqb-false i p e)))
           (record { keeps = keeps-all (stationAt b i); whole = q .picture .members i h .whole })
 
-  pub quiet-anew : Quiet (withStation b p s)
+  pub quiet-anew : Quiet limit (withStation b p s)
   quiet-anew =
       record {
         table = length-set (b .stations) p s ∙ q .table;
@@ -97,14 +97,14 @@ module _ (b : Bench) (q : Quiet b) (p : ℕ) (place : p < b .n) (s : Station) (s
         picture = picture-still (q .picture) (stationAt (withStation b p s)) anew;
       }
 
-pub quiet-queue : (b : Bench) → Quiet b → (from to priority channel length′ : ℕ) → Quiet (queue b from to priority channel length′ .bench)
+pub quiet-queue : {limit : ℕ} (b : Bench) → Quiet limit b → (from to priority channel length′ : ℕ) → Quiet limit (queue b from to priority channel length′ .bench)
 unfolding queue pick
-quiet-queue b q from to priority channel length′ = go (leb (seats (b .n)) from) refl
+quiet-queue {limit} b q from to priority channel length′ = go (leb (seats (b .n)) from) refl
   where
     a : Answer
     a = queueRule (stationAt b from) to priority channel length′
 
-    go : (t : Bool) → leb (seats (b .n)) from ≡ t → Quiet (pick {A = Queued} t (record { bench = b; number = 15 }) (queueAt b from a) .bench)
+    go : (t : Bool) → leb (seats (b .n)) from ≡ t → Quiet limit (pick {A = Queued} t (record { bench = b; number = 15 }) (queueAt b from a) .bench)
     go true e = q
     go false e =
         let inside : from < b .n = seats-members (b .n) from (leb-false (seats (b .n)) from e) in

@@ -34,51 +34,51 @@ use Rattle.bench_theorems.proofs.Laws.FullSet.{full-successor}
 abbrev pub firstFrame : Frame
 firstFrame = Token 0 0 0 Nobody 0
 
-module _ (n : ℕ) (two : 2 ≤ n) (most : n ≤ 64) where
-  starts : (p : ℕ) → firstAnswer n p ≡ started (made n 1 p)
+module _ (n limit : ℕ) (two : 2 ≤ n) (most : n ≤ 64) where
+  starts : (p : ℕ) → firstAnswer n limit p ≡ started (made n limit p)
   unfolding startRule
-  starts p = moved-runs (made n 1 p) Start (started (made n 1 p)) refl refl
+  starts p = moved-runs (made n limit p) Start (started (made n limit p)) refl refl
 
-  first-round : startRound (sight (made n 1 0)) 0 Nobody ≡ Sent firstFrame (after n 0)
+  first-round : startRound (sight (made n limit 0)) 0 Nobody ≡ Sent firstFrame (after n 0)
   unfolding startRound head best bestOf pick
   first-round = ap (λ (q : ℕ). let d : Dispatch = Sent firstFrame q in d) (full-successor n 0 two most (omega arith))
 
-  starts-first : firstAnswer n 0 ≡ sentFirst (made n 1 0) (Sent firstFrame (after n 0))
+  starts-first : firstAnswer n limit 0 ≡ sentFirst (made n limit 0) (Sent firstFrame (after n 0))
   unfolding started
-  starts-first = starts 0 ∙ pick-true _ _ refl ∙ ap (sentFirst (made n 1 0)) first-round
+  starts-first = starts 0 ∙ pick-true _ _ refl ∙ ap (sentFirst (made n limit 0)) first-round
 
-  starts-idle : (p : ℕ) → (p ≡ 0 → ⊥) → firstAnswer n p ≡ answered (quiet (made n 1 p) Idle) 0
+  starts-idle : (p : ℕ) → (p ≡ 0 → ⊥) → firstAnswer n limit p ≡ answered (quiet (made n limit p) Idle) 0
   unfolding started
   starts-idle p o = starts p ∙ pick-false _ _ (ne-eqb p 0 o)
 
-  pub first-sent : firstAnswer n 0 .sent ≡ Sent firstFrame (after n 0)
+  pub first-sent : firstAnswer n limit 0 .sent ≡ Sent firstFrame (after n 0)
   first-sent = ap (λ (a : Answer). a .sent) starts-first
 
   -- a member as it starts
   pub record Begun (p : ℕ) (a : Answer) : Type 0 where
     pub number : a .number ≡ 0
-    pub member : Member n p (a .station)
+    pub member : Member n limit p (a .station)
     pub stands : Stands 0 0 firstFrame (after n 0) p (a .station)
     pub handled : a .station .turn .handled ≡ Never
 
-  pub begun : (p : ℕ) → p < n → Begun p (firstAnswer n p)
-  begun p h = go (eqb p 0) refl
+  pub begun : 1 ≤ limit → limit ≤ 15 → (p : ℕ) → p < n → Begun p (firstAnswer n limit p)
+  begun low high p h = go (eqb p 0) refl
     where
-      whole : WholeStation (firstAnswer n p .station)
-      whole = start-keeps-whole (made n 1 p) (made-whole n 1 p two most (omega arith) (omega arith) h)
+      whole : WholeStation (firstAnswer n limit p .station)
+      whole = start-keeps-whole (made n limit p) (made-whole n limit p two most low high h)
 
-      go : (t : Bool) → eqb p 0 ≡ t → Begun p (firstAnswer n p)
+      go : (t : Bool) → eqb p 0 ≡ t → Begun p (firstAnswer n limit p)
       go true e =
           let z : p ≡ 0 = eqb-true p 0 e in
-          let is : firstAnswer n p ≡ sentFirst (made n 1 p) (Sent firstFrame (after n 0)) =
-          ap (firstAnswer n) z ∙ starts-first ∙ ap (λ (i : ℕ). sentFirst (made n 1 i) (Sent firstFrame (after n 0))) (sym z) in
+          let is : firstAnswer n limit p ≡ sentFirst (made n limit p) (Sent firstFrame (after n 0)) =
+          ap (firstAnswer n limit) z ∙ starts-first ∙ ap (λ (i : ℕ). sentFirst (made n limit i) (Sent firstFrame (after n 0))) (sym z) in
           subst (Begun p) (sym is)
           (record {
             number = refl;
             member =
                 record {
                   same-n = refl;
-                  limit = refl;
+                  same-limit = refl;
                   own = refl;
                   live = refl;
                   whole = subst (λ (a : Answer). WholeStation (a .station)) is whole;
@@ -88,14 +88,14 @@ module _ (n : ℕ) (two : 2 ≤ n) (most : n ≤ 64) where
           })
       go false e =
           let o : p ≡ 0 → ⊥ = eqb-false p 0 e in
-          let is : firstAnswer n p ≡ answered (quiet (made n 1 p) Idle) 0 = starts-idle p o in
+          let is : firstAnswer n limit p ≡ answered (quiet (made n limit p) Idle) 0 = starts-idle p o in
           subst (Begun p) (sym is)
           (record {
             number = refl;
             member =
                 record {
                   same-n = refl;
-                  limit = refl;
+                  same-limit = refl;
                   own = refl;
                   live = refl;
                   whole = subst (λ (a : Answer). WholeStation (a .station)) is whole;

@@ -16,7 +16,7 @@ use Rattle.bench_theorems.proofs.Laws.Awaiting.{Proper, awaited-proper,
 use Rattle.bench_theorems.proofs.Laws.Answers.{Role, sends, answers, overhears, role, stands-waits, silent-at, answer-at, reply-at, new-sent}
 
 module _
-    {n : ℕ} {at : ℕ → Station} {from : ℕ} {f : Frame} {to : ℕ} (w : Picture n at from f to) (later : ℕ → Station)
+    {n limit : ℕ} {at : ℕ → Station} {from : ℕ} {f : Frame} {to : ℕ} (w : Picture n limit at from f to) (later : ℕ → Station)
     (stays : later from ≡ at from) (heard : (p : ℕ) → p < n → (p ≡ from → ⊥) → later p ≡ frameRule (at p) f from to .station)
   where
     abbrev newFrame : Frame
@@ -33,13 +33,13 @@ module _
     at-addressee P p e x =
         subst (λ (q : ℕ). P q (later q)) (sym e) (subst (P to) (sym (heard to (w .addressee-member) (w .another))) x)
 
-    later-member : (p : ℕ) → p < n → Member n p (later p)
+    later-member : (p : ℕ) → p < n → Member n limit p (later p)
     later-member p h = go (role from to p)
       where
-        go : Role from to p → Member n p (later p)
-        go (sends e) = subst (Member n p) (sym (same-sender p e)) (w .members p h)
-        go (answers e o) = at-addressee (Member n) p e (answer-at w .member)
-        go (overhears x o) = subst (Member n p) (sym (heard p h o)) (silent-at w p h o x .member)
+        go : Role from to p → Member n limit p (later p)
+        go (sends e) = subst (Member n limit p) (sym (same-sender p e)) (w .members p h)
+        go (answers e o) = at-addressee (Member n limit) p e (answer-at w .member)
+        go (overhears x o) = subst (Member n limit p) (sym (heard p h o)) (silent-at w p h o x .member)
 
     new-awaited : awaitedOf (later to) ≡ Sent newFrame newTo
     new-awaited = ap awaitedOf (heard to (w .addressee-member) (w .another)) ∙ answer-at w .awaited ∙ new-sent w
@@ -89,7 +89,7 @@ module _
             (answer-at w .same-head (ap flight (new-sent w) ∙ none))
         go (overhears x o) = ap head (heard p h o) ∙ silent-at w p h o x .same-head
 
-    pub picture-step : Picture n later to (reply-at w .frame) (reply-at w .to)
+    pub picture-step : Picture n limit later to (reply-at w .frame) (reply-at w .to)
     picture-step =
         record {
           some-members = w .some-members;

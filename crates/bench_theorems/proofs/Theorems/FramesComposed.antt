@@ -7,7 +7,7 @@ use native.Mathlib.Omega.{arith}
 use lib.ListN.{length, length-append}
 use Rattle.parts.specs.declared.frame.Frame.{Frame}
 use Rattle.parts.specs.declared.frame.Dispatch.the-variants.{Sent}
-use Rattle.bench.specs.Ring.{ringOf}
+use Rattle.bench.specs.Ring.{ringWith}
 use Rattle.bench.specs.Delivery.{deliver, step}
 use Rattle.bench.specs.Rows.{rowOn, rowsOn}
 use Rattle.bench.specs.Runs.{Event, stepped, queued, afterEvent, composed, final, frames, stepping}
@@ -26,10 +26,10 @@ pub record Delivers (b : Bench) : Type 0 where
   pub on-wire : b .wire .sent ≡ Sent frame to
   pub delivers : step b ≡ deliver b frame to
 
-pub step-is-delivery : (n : ℕ) → 2 ≤ n → n ≤ 64 → (es : List Event) → Delivers (final (ringOf n) es)
-step-is-delivery n two most es =
-    let q = reached-quiet n two most es in
-    record { frame = q .frame; to = q .to; on-wire = q .on-wire; delivers = step-delivers (final (ringOf n) es) q }
+pub step-is-delivery : (n limit : ℕ) → 2 ≤ n → n ≤ 64 → 1 ≤ limit → limit ≤ 15 → (es : List Event) → Delivers (final (ringWith n limit) es)
+step-is-delivery n limit two most low high es =
+    let q = reached-quiet n limit two most low high es in
+    record { frame = q .frame; to = q .to; on-wire = q .on-wire; delivers = step-delivers (final (ringWith n limit) es) q }
 
 -- ---- how many
 
@@ -37,10 +37,10 @@ one-row : (from : ℕ) (f : Frame) (to : ℕ) → length (rowOn from (Sent f to)
 unfolding rowOn
 one-row from f to = refl
 
-one-composed : (b : Bench) → Quiet b → length (rowsOn (step b .wire)) ≡ 1
+one-composed : {limit : ℕ} (b : Bench) → Quiet limit b → length (rowsOn (step b .wire)) ≡ 1
 one-composed b q = ap (λ (w : Wire). length (rowsOn w)) (step-wire b q) ∙ one-row _ _ _
 
-pub frames-length : (b : Bench) → Quiet b → (es : List Event) → length (frames b es) ≡ stepsIn es
+pub frames-length : {limit : ℕ} (b : Bench) → Quiet limit b → (es : List Event) → length (frames b es) ≡ stepsIn es
 unfolding frames composed stepsIn
 frames-length b q [] = refl
 frames-length b q (stepped ∷ es) =
@@ -49,8 +49,8 @@ frames-length b q (stepped ∷ es) =
 frames-length b q (queued from to priority channel len ∷ es) =
     frames-length (afterEvent b (queued from to priority channel len)) (quiet-event b q (queued from to priority channel len)) es
 
-pub frames-composed : (n : ℕ) → 2 ≤ n → n ≤ 64 → (es : List Event) → length (frames (ringOf n) es) ≡ stepsIn es
-frames-composed n two most es = frames-length (ringOf n) (quiet-start n two most) es
+pub frames-composed : (n limit : ℕ) → 2 ≤ n → n ≤ 64 → 1 ≤ limit → limit ≤ 15 → (es : List Event) → length (frames (ringWith n limit) es) ≡ stepsIn es
+frames-composed n limit two most low high es = frames-length (ringWith n limit) (quiet-start n limit two most low high) es
 
 steps-stepping : (k : ℕ) → stepsIn (stepping k) ≡ k
 unfolding stepsIn stepping
@@ -58,5 +58,5 @@ steps-stepping zero = refl
 steps-stepping (suc k) = ap suc (steps-stepping k)
 
 -- k steps of any bench that a run comes to
-pub steps-compose : (n : ℕ) → 2 ≤ n → n ≤ 64 → (es : List Event) (k : ℕ) → length (frames (final (ringOf n) es) (stepping k)) ≡ k
-steps-compose n two most es k = frames-length (final (ringOf n) es) (reached-quiet n two most es) (stepping k) ∙ steps-stepping k
+pub steps-compose : (n limit : ℕ) → 2 ≤ n → n ≤ 64 → 1 ≤ limit → limit ≤ 15 → (es : List Event) (k : ℕ) → length (frames (final (ringWith n limit) es) (stepping k)) ≡ k
+steps-compose n limit two most low high es k = frames-length (final (ringWith n limit) es) (reached-quiet n limit two most low high es) (stepping k) ∙ steps-stepping k

@@ -23,7 +23,7 @@ use Rattle.parts.specs.declared.frame.Dispatch.the-variants.{Sent}
 use Rattle.station.specs.declared.station.Station.{Station}
 use Rattle.station.specs.declared.station.Answer.{Answer}
 use Rattle.station.proofs.Laws.Moved.{moved-runs}
-use Rattle.bench.specs.Ring.{stationAt, ringOf}
+use Rattle.bench.specs.Ring.{stationAt, ringWith}
 use Rattle.bench.specs.Calls.{queue}
 use Rattle.bench.specs.Runs.{Event, final}
 use Rattle.bench.specs.declared.ring.Bench.{Bench}
@@ -43,7 +43,7 @@ pub record NoneRefused (n : ℕ) (b : Bench) : Type 0 where
   pub on-wire : b .wire .sent ≡ Sent frame to
   pub heard : (p : ℕ) → p < n → (p ≡ b .wire .from → ⊥) → frameRule (stationAt b p) frame (b .wire .from) to .number ≡ 0
 
-heard-number : {n : ℕ} {at : ℕ → Station} {from : ℕ} {f : Frame} {to : ℕ} → Picture n at from f to → (p : ℕ) → p < n → (p ≡ from → ⊥)
+heard-number : {n limit : ℕ} {at : ℕ → Station} {from : ℕ} {f : Frame} {to : ℕ} → Picture n limit at from f to → (p : ℕ) → p < n → (p ≡ from → ⊥)
     → frameRule (at p) f from to .number ≡ 0
 heard-number {n} {at} {from} {f} {to} w p h o = go (role from to p)
   where
@@ -52,21 +52,21 @@ heard-number {n} {at} {from} {f} {to} w p h o = go (role from to p)
     go (answers e x) = ap (λ (i : ℕ). frameRule (at i) f from to .number) e ∙ answer-at w .number
     go (overhears x y) = silent-at w p h o x .number
 
-pub none-refused : (n : ℕ) → 2 ≤ n → n ≤ 64 → (es : List Event) → NoneRefused n (final (ringOf n) es)
-none-refused n two most es =
-    let b : Bench = final (ringOf n) es in
-    let q = reached-quiet n two most es in
+pub none-refused : (n limit : ℕ) → 2 ≤ n → n ≤ 64 → 1 ≤ limit → limit ≤ 15 → (es : List Event) → NoneRefused n (final (ringWith n limit) es)
+none-refused n limit two most low high es =
+    let b : Bench = final (ringWith n limit) es in
+    let q = reached-quiet n limit two most low high es in
     record {
       frame = q .frame;
       to = q .to;
       on-wire = q .on-wire;
-      heard = λ p h o. heard-number (q .picture) p (omega (arith, reached-n n two most es)) o;
+      heard = λ p h o. heard-number (q .picture) p (omega (arith, reached-n n limit two most low high es)) o;
     }
 
 -- ---- starts
 
-pub no-start-refused : (n : ℕ) → 2 ≤ n → n ≤ 64 → (p : ℕ) → p < n → startRule (made n 1 p) .number ≡ 0
-no-start-refused n two most p h = begun n two most p h .number
+pub no-start-refused : (n limit : ℕ) → 2 ≤ n → n ≤ 64 → 1 ≤ limit → limit ≤ 15 → (p : ℕ) → p < n → startRule (made n limit p) .number ≡ 0
+no-start-refused n limit two most low high p h = begun n limit two most low high p h .number
 
 -- ---- queue calls
 
@@ -104,7 +104,7 @@ all-live n own alive len to priority channel length w = go (leb n to) refl
     go true e = rw e
     go false e = rw (w (leb-false n to e))
 
-member-number : (n p : ℕ) (s : Station) → n ≤ 64 → Member n p s → (to priority channel length : ℕ)
+member-number : {limit : ℕ} (n p : ℕ) (s : Station) → n ≤ 64 → Member n limit p s → (to priority channel length : ℕ)
     → queueNumber s to priority channel length ≡ queueRefusal n p true (s .sends .len) to priority channel length
 member-number n p s most m to priority channel length =
     ap (λ (i : ℕ). queueRefusal i (s .own) (liveAt (s .live) to) (s .sends .len) to priority channel length) (m .same-n)
@@ -112,7 +112,7 @@ member-number n p s most m to priority channel length =
     ∙ all-live n p (liveAt (s .live) to) (s .sends .len) to priority channel length
     (λ h. ap (λ (l : Live). liveAt l to) (m .live) ∙ full-live n to most h)
 
-quiet-number : (b : Bench) → Quiet b → (from to priority channel length : ℕ) → OwnNumber (b .n) b from to priority channel length
+quiet-number : {limit : ℕ} (b : Bench) → Quiet limit b → (from to priority channel length : ℕ) → OwnNumber (b .n) b from to priority channel length
 quiet-number b q from to priority channel length =
     let seats-are : b .n ≡ seats (b .n) = sym (seats-most (b .n) (q .picture .most-members)) in
     record {
@@ -123,8 +123,8 @@ quiet-number b q from to priority channel length =
           ∙ member-number (b .n) from (stationAt b from) (q .picture .most-members) (q .picture .members from h) to priority channel length;
     }
 
-pub queue-numbers : (n : ℕ) → 2 ≤ n → n ≤ 64 → (es : List Event) (from to priority channel length : ℕ)
-    → OwnNumber n (final (ringOf n) es) from to priority channel length
-queue-numbers n two most es from to priority channel length =
-    subst (λ (k : ℕ). OwnNumber k (final (ringOf n) es) from to priority channel length) (reached-n n two most es)
-    (quiet-number (final (ringOf n) es) (reached-quiet n two most es) from to priority channel length)
+pub queue-numbers : (n limit : ℕ) → 2 ≤ n → n ≤ 64 → 1 ≤ limit → limit ≤ 15 → (es : List Event) (from to priority channel length : ℕ)
+    → OwnNumber n (final (ringWith n limit) es) from to priority channel length
+queue-numbers n limit two most low high es from to priority channel length =
+    subst (λ (k : ℕ). OwnNumber k (final (ringWith n limit) es) from to priority channel length) (reached-n n limit two most low high es)
+    (quiet-number (final (ringWith n limit) es) (reached-quiet n limit two most low high es) from to priority channel length)

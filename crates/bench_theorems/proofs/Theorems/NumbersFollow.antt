@@ -9,7 +9,7 @@ use Rattle.parts.specs.Frames.{numberOf, next}
 use Rattle.parts.specs.declared.frame.Frame.{Frame}
 use Rattle.parts.specs.declared.frame.Dispatch.{Dispatch}
 use Rattle.parts.specs.declared.frame.Dispatch.the-variants.{Sent}
-use Rattle.bench.specs.Ring.{ringOf}
+use Rattle.bench.specs.Ring.{ringWith}
 use Rattle.bench.specs.Delivery.{step}
 use Rattle.bench.specs.Runs.{Event, stepped, queued, afterEvent, final}
 use Rattle.bench.specs.declared.ring.Wire.{Wire}
@@ -31,7 +31,7 @@ pub record Follows (b : Bench) : Type 0 where
   pub then-on-wire : step b .wire .sent ≡ Sent new-frame new-to
   pub follows : numberOf new-frame ≡ next (numberOf frame)
 
-quiet-follows : (b : Bench) → Quiet b → Follows b
+quiet-follows : {limit : ℕ} (b : Bench) → Quiet limit b → Follows b
 quiet-follows b q =
     record {
       frame = q .frame;
@@ -43,20 +43,20 @@ quiet-follows b q =
       follows = reply-in b q .number;
     }
 
-pub numbers-follow : (n : ℕ) → 2 ≤ n → n ≤ 64 → (es : List Event) → Follows (final (ringOf n) es)
-numbers-follow n two most es = quiet-follows (final (ringOf n) es) (reached-quiet n two most es)
+pub numbers-follow : (n limit : ℕ) → 2 ≤ n → n ≤ 64 → 1 ≤ limit → limit ≤ 15 → (es : List Event) → Follows (final (ringWith n limit) es)
+numbers-follow n limit two most low high es = quiet-follows (final (ringWith n limit) es) (reached-quiet n limit two most low high es)
 
-pub first-number : (n : ℕ) → 2 ≤ n → n ≤ 64 → wireNumber (ringOf n) ≡ 0
-first-number n two most = ap (λ (w : Wire). numberIn (w .sent)) (first-wire n two most)
+pub first-number : (n limit : ℕ) → 2 ≤ n → n ≤ 64 → 1 ≤ limit → limit ≤ 15 → wireNumber (ringWith n limit) ≡ 0
+first-number n limit two most low high = ap (λ (w : Wire). numberIn (w .sent)) (first-wire n limit two most low high)
 
 -- ---- counted from the first
 
-step-number : (b : Bench) → Quiet b → wireNumber (step b) ≡ next (wireNumber b)
+step-number : {limit : ℕ} (b : Bench) → Quiet limit b → wireNumber (step b) ≡ next (wireNumber b)
 step-number b q =
     let f = quiet-follows b q in
     ap numberIn (f .then-on-wire) ∙ f .follows ∙ ap (λ (d : Dispatch). next (numberIn d)) (sym (f .on-wire))
 
-run-number : (b : Bench) → Quiet b → (j : ℕ) → wireNumber b ≡ j % 2 ^ 16 → (es : List Event) → wireNumber (final b es) ≡ (j + stepsIn es) % 2 ^ 16
+run-number : {limit : ℕ} (b : Bench) → Quiet limit b → (j : ℕ) → wireNumber b ≡ j % 2 ^ 16 → (es : List Event) → wireNumber (final b es) ≡ (j + stepsIn es) % 2 ^ 16
 unfolding final stepsIn afterEvent
 run-number b q j e [] = e ∙ ap (λ (i : ℕ). i % 2 ^ 16) (omega arith)
 run-number b q j e (stepped ∷ es) =
@@ -66,6 +66,6 @@ run-number b q j e (queued from to priority channel length ∷ es) =
     run-number (afterEvent b (queued from to priority channel length)) (quiet-event b q (queued from to priority channel length)) j
     (ap (λ (w : Wire). numberIn (w .sent)) (queue-wire b from to priority channel length) ∙ e) es
 
-pub wire-number : (n : ℕ) → 2 ≤ n → n ≤ 64 → (es : List Event) → wireNumber (final (ringOf n) es) ≡ stepsIn es % 2 ^ 16
-wire-number n two most es =
-    run-number (ringOf n) (quiet-start n two most) 0 (first-number n two most) es ∙ ap (λ (i : ℕ). i % 2 ^ 16) (omega arith)
+pub wire-number : (n limit : ℕ) → 2 ≤ n → n ≤ 64 → 1 ≤ limit → limit ≤ 15 → (es : List Event) → wireNumber (final (ringWith n limit) es) ≡ stepsIn es % 2 ^ 16
+wire-number n limit two most low high es =
+    run-number (ringWith n limit) (quiet-start n limit two most low high) 0 (first-number n limit two most low high) es ∙ ap (λ (i : ℕ). i % 2 ^ 16) (omega arith)

@@ -7,7 +7,7 @@ use native.Mathlib.Omega.{arith}
 use Rattle.station.specs.Heard.{frameRule}
 use Rattle.parts.specs.declared.frame.Frame.{Frame}
 use Rattle.parts.specs.declared.frame.Dispatch.the-variants.{Nothing, Sent}
-use Rattle.bench.specs.Ring.{stationAt, ringOf}
+use Rattle.bench.specs.Ring.{stationAt, ringWith}
 use Rattle.bench.specs.Delivery.{step}
 use Rattle.bench.specs.Runs.{Event, final}
 use Rattle.bench.specs.declared.ring.Bench.{Bench}
@@ -27,20 +27,20 @@ pub record OneAnswers (n : ℕ) (b : Bench) : Type 0 where
   pub others-silent : (p : ℕ) → p < n → (p ≡ b .wire .from → ⊥) → (p ≡ to → ⊥) → frameRule (stationAt b p) frame (b .wire .from) to .sent ≡ Nothing
   pub goes-on : step b .wire ≡ record { from = to; sent = Sent answer onward }
 
-pub one-answers : (n : ℕ) → 2 ≤ n → n ≤ 64 → (es : List Event) → OneAnswers n (final (ringOf n) es)
-one-answers n two most es =
-    let b : Bench = final (ringOf n) es in
-    let q = reached-quiet n two most es in
+pub one-answers : (n limit : ℕ) → 2 ≤ n → n ≤ 64 → 1 ≤ limit → limit ≤ 15 → (es : List Event) → OneAnswers n (final (ringWith n limit) es)
+one-answers n limit two most low high es =
+    let b : Bench = final (ringWith n limit) es in
+    let q = reached-quiet n limit two most low high es in
     record {
       frame = q .frame;
       to = q .to;
       on-wire = q .on-wire;
-      addressee = omega (arith, reached-n n two most es, q .picture .addressee-member);
+      addressee = omega (arith, reached-n n limit two most low high es, q .picture .addressee-member);
       another = q .picture .another;
       answer = reply-in b q .frame;
       onward = reply-in b q .to;
       answers = new-sent (q .picture);
       others-silent = λ p h o x.
-          silent-at (q .picture) p (omega (arith, reached-n n two most es)) o x .sent;
+          silent-at (q .picture) p (omega (arith, reached-n n limit two most low high es)) o x .sent;
       goes-on = step-wire b q;
     }

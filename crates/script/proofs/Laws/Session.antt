@@ -11,7 +11,7 @@ use Rattle.codec.specs.Octets.{laid}
 use Rattle.codec.proofs.Laws.Octets.{laid-none}
 use Rattle.parts.specs.Choose.{pick, allOf}
 use Rattle.parts.proofs.Laws.Choose.{pick-true, pick-false}
-use Rattle.bench.specs.Ring.{ringOf, startDown}
+use Rattle.bench.specs.Ring.{startDown, ringWith, ringOf}
 use Rattle.bench.specs.Delivery.{steps}
 use Rattle.bench.specs.Calls.{queue}
 use Rattle.bench.specs.Rows.{rowsOn}
@@ -108,7 +108,7 @@ acted-same b c u v k m p q r =
     ap (λ (x : Bench). actedOn x u k) p ∙ ap (λ (x : ℕ). actedOn c x k) q ∙ ap (λ (x : ℕ). actedOn c v x) r
 
 pub new-unbegun : (b : Bench) → b ≡ ringOf 0 → _≡_ {A = Session} (record { begun = false; bench = b }) unbegun
-unfolding ringOf startDown pick
+unfolding ringWith startDown pick
 new-unbegun b e = ap (λ (x : Bench). record { begun = false; bench = x }) e
 
 pub open-done : (l l₁ l₂ : List ℕ) (at a used n : ℕ) (b : Bench) → at + 64 ≤ length l → b ≡ ringOf n

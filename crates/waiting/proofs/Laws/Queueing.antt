@@ -32,7 +32,7 @@ takes-part (sender e w a) = ap (λ (st : State). moveOf st Queue) w
 takes-part (last-sender o e w g a k) = ap (λ (st : State). moveOf st Queue) w
 takes-part (at-rest o e i) = ap (λ (st : State). moveOf st Queue) i
 
-module _ (b : Bench) (q : Quiet b) (from to priority channel length′ : ℕ) where
+module _ {limit : ℕ} (b : Bench) (q : Quiet limit b) (from to priority channel length′ : ℕ) where
   -- what holds of the call outside the ring and inside it holds of it
   queue-either : (P : Queued → Type 0) → P (record { bench = b; number = 15 }) → (from < b .n → P (queueAt b from (queueRule (stationAt b from) to priority channel length′)))
       → P (queue b from to priority channel length′)

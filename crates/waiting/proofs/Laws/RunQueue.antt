@@ -34,18 +34,18 @@ use Rattle.bench_theorems.proofs.Laws.FullSet.{seats-most, full-live}
 use Rattle.waiting.proofs.Laws.RunWaiting.{waiting, resting-all}
 
 -- a member that takes part, with an empty send list
-pub record Unused (n p : ℕ) (s : Station) : Type 0 where
-  pub member : Member n p s
+pub record Unused (n limit p : ℕ) (s : Station) : Type 0 where
+  pub member : Member n limit p s
   pub takes-part : moveOf (stateOf s) Queue ≡ runs
   pub empty : s .sends ≡ none
   pub none-flies : flight (awaitedOf s) .on ≡ false
 
-pub unused-waits : {n p : ℕ} {s : Station} → Unused n p s → waiting s ≡ []
+pub unused-waits : {n limit p : ℕ} {s : Station} → Unused n limit p s → waiting s ≡ []
 unfolding waiting
-unused-waits {n} {p} {s} u = resting-all (flight (awaitedOf s)) (u .none-flies) (all (s .sends)) ∙ ap all (u .empty)
+unused-waits {n} {limit} {p} {s} u = resting-all (flight (awaitedOf s)) (u .none-flies) (all (s .sends)) ∙ ap all (u .empty)
 
 -- the lowest free place of an empty list
-pub unused-place : {n p : ℕ} {s : Station} → Unused n p s → lowestFree (all (s .sends)) ≡ 0
+pub unused-place : {n limit p : ℕ} {s : Station} → Unused n limit p s → lowestFree (all (s .sends)) ≡ 0
 unfolding lowestFree freeFrom hasPlace pick
 unused-place u = ap (λ (l : Messages). lowestFree (all l)) (u .empty)
 
@@ -81,7 +81,7 @@ proper-passes n p alive len to priority channel length′ e room g =
 abbrev pub onlyOne : ℕ → ℕ → ℕ → ℕ → Message
 onlyOne to priority channel length′ = record { other = to; priority = priority; channel = channel; length = length′; place = 0 }
 
-module _ {n p : ℕ} {s : Station} (most : n ≤ 64) (u : Unused n p s) (to priority channel length′ : ℕ) (g : Proper n p to priority channel length′) where
+module _ {n limit p : ℕ} {s : Station} (most : n ≤ 64) (u : Unused n limit p s) (to priority channel length′ : ℕ) (g : Proper n p to priority channel length′) where
   passes : queueNumber s to priority channel length′ ≡ 0
   passes =
       ap (λ (i : ℕ). queueRefusal i (s .own) (liveAt (s .live) to) (s .sends .len) to priority channel length′) (u .member .same-n)
@@ -107,7 +107,7 @@ module _ {n p : ℕ} {s : Station} (most : n ≤ 64) (u : Unused n p s) (to prio
 -- ---- on the bench
 
 module _
-    (b : Bench) (q : Quiet b) (n : ℕ) (same-n : b .n ≡ n) (p : ℕ) (place : p < n) (u : Unused n p (stationAt b p)) (to priority channel length′ : ℕ)
+    {limit : ℕ} (b : Bench) (q : Quiet limit b) (n : ℕ) (same-n : b .n ≡ n) (p : ℕ) (place : p < n) (u : Unused n limit p (stationAt b p)) (to priority channel length′ : ℕ)
     (g : Proper n p to priority channel length′)
   where
     most : n ≤ 64

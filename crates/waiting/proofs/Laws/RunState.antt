@@ -15,7 +15,7 @@ use Rattle.parts.specs.declared.frame.Frame.{Frame}
 use Rattle.parts.specs.declared.frame.Dispatch.{Dispatch}
 use Rattle.parts.specs.declared.frame.Dispatch.the-variants.{Sent}
 use Rattle.bench.specs.Ring.{stationAt}
-use Rattle.bench.specs.Delivery.{deliver, step}
+use Rattle.bench.specs.Delivery.{deliverTo, step}
 use Rattle.bench.specs.declared.ring.Wire.{Wire}
 use Rattle.bench.specs.declared.ring.Bench.{Bench}
 use Rattle.bench_theorems.specs.Quiet.{Quiet}
@@ -29,7 +29,8 @@ wireOf from d = record { from = from; sent = d }
 
 -- a quiet ring of n with the frame f on the wire, and the messages `load p` waiting at each place p
 pub record Runs (n : ℕ) (load : ℕ → List Message) (from : ℕ) (f : Frame) (to : ℕ) (b : Bench) : Type 0 where
-  pub quiet : Quiet b
+  pub limit : ℕ
+  pub quiet : Quiet limit b
   pub same-n : b .n ≡ n
   pub wire : b .wire ≡ wireOf from (Sent f to)
   pub loads : (p : ℕ) → p < n → waiting (stationAt b p) ≡ load p
@@ -40,8 +41,8 @@ same-frame e = cc
 same-to : {f g : Frame} {p q : ℕ} → Sent f p ≡ Sent g q → p ≡ q
 same-to e = cc
 
-step-n : (b : Bench) → Quiet b → step b .n ≡ b .n
-unfolding deliver
+step-n : {limit : ℕ} (b : Bench) → Quiet limit b → step b .n ≡ b .n
+unfolding deliverTo
 step-n b q = ap (λ (c : Bench). c .n) (step-delivers b q)
 
 module _ {n : ℕ} {load : ℕ → List Message} {from : ℕ} {f : Frame} {to : ℕ} {b : Bench} (r : Runs n load from f to b) where
@@ -73,6 +74,7 @@ module _ {n : ℕ} {load : ℕ → List Message} {from : ℕ} {f : Frame} {to : 
       → Runs n later to g q (step b)
   runs-step later g q e here there =
       record {
+        limit = r .limit;
         quiet = quiet-step b (r .quiet);
         same-n = step-n b (r .quiet) ∙ r .same-n;
         wire = now-wire;

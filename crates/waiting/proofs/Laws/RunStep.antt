@@ -30,7 +30,7 @@ all-waits : (s : Station) → flight (awaitedOf s) ≡ noFlight → all (s .send
 unfolding waiting
 all-waits s e = sym (resting-all (flight (awaitedOf s)) (ap (λ (f : Flight). f .on) e) (all (s .sends)))
 
-module _ {n : ℕ} {at : ℕ → Station} {from : ℕ} {f : Frame} {to : ℕ} (w : Picture n at from f to) where
+module _ {n limit : ℕ} {at : ℕ → Station} {from : ℕ} {f : Frame} {to : ℕ} (w : Picture n limit at from f to) where
   silent-waits : (p : ℕ) → p < n → (p ≡ from → ⊥) → (p ≡ to → ⊥) → waiting (frameRule (at p) f from to .station) ≡ waiting (at p)
   silent-waits p h o x =
       let l = hears-at w p h o in
@@ -48,7 +48,7 @@ module _ {n : ℕ} {at : ℕ → Station} {from : ℕ} {f : Frame} {to : ℕ} (w
 
 -- ---- the bench
 
-module _ (b : Bench) (q : Quiet b) where
+module _ {limit : ℕ} (b : Bench) (q : Quiet limit b) where
   pub others-wait : (p : ℕ) → p < b .n → (p ≡ q .to → ⊥) → waiting (stationAt (step b) p) ≡ waiting (stationAt b p)
   others-wait p h x = ap (λ (c : Bench). waiting (stationAt c p)) (step-delivers b q) ∙ go (role (b .wire .from) (q .to) p)
     where

@@ -29,6 +29,7 @@ pub holds-queue : (n : ℕ) (x : Spot) (m : Message) (b : Bench) → Holds n x m
     → Holds n x m (queue b from to priority channel length .bench)
 holds-queue n x m b h from to priority channel length =
     record {
+      limit = h .limit;
       quiet = quiet-queue b (h .quiet) from to priority channel length;
       size = queue-n b (h .quiet) from to priority channel length ∙ h .size;
       member = h .member;

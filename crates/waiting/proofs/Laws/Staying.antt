@@ -57,7 +57,7 @@ heard-keeps s whole f from to g m w = go (frame-leaves-only s (whole-fits s (who
 
 -- ---- a step
 
-module _ (b : Bench) (q : Quiet b) (p : ℕ) (member : p < b .n) (m : Message) (w : Waits b p m)
+module _ {limit : ℕ} (b : Bench) (q : Quiet limit b) (p : ℕ) (member : p < b .n) (m : Message) (w : Waits b p m)
     (not-sent : q .to ≡ p → flightIn (reply-in b q .frame) ≡ noFlight)
   where
     whole : WholeStation (stationAt b p)

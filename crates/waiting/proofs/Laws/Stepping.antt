@@ -11,7 +11,7 @@ use Rattle.parts.specs.declared.frame.Frame.{Frame}
 use Rattle.parts.specs.declared.frame.Dispatch.{Dispatch}
 use Rattle.parts.specs.declared.frame.Dispatch.the-variants.{Sent}
 use Rattle.bench.specs.Ring.{stationAt}
-use Rattle.bench.specs.Delivery.{deliver, step}
+use Rattle.bench.specs.Delivery.{deliverTo, step}
 use Rattle.bench.specs.Rows.{kindOf}
 use Rattle.bench.specs.declared.ring.Wire.{Wire}
 use Rattle.bench.specs.declared.ring.Bench.{Bench}
@@ -29,7 +29,8 @@ use Rattle.waiting.proofs.Laws.Own.{own-sent, own-not}
 
 -- the message m stands at the spot x of a quiet bench, and waits
 pub record Holds (n : ℕ) (x : Spot) (m : Message) (b : Bench) : Type 0 where
-  pub quiet : Quiet b
+  pub limit : ℕ
+  pub quiet : Quiet limit b
   pub size : b .n ≡ n
   pub member : x .station < n
   pub place : m .place ≡ x .place
@@ -65,14 +66,14 @@ pub data Steps (n : ℕ) (x : Spot) (m : Message) (b : Bench) (short info : ℕ)
   goes-now : Goes x m (b .wire) → Steps n x m b short info
   waits-on : WaitsOn n x m b short info → Steps n x m b short info
 
-step-n : (b : Bench) → Quiet b → step b .n ≡ b .n
-unfolding deliver
+step-n : {limit : ℕ} (b : Bench) → Quiet limit b → step b .n ≡ b .n
+unfolding deliverTo
 step-n b q = ap (λ (c : Bench). c .n) (step-delivers b q)
 
 module _ (n : ℕ) (x : Spot) (m : Message) (b : Bench) (h : Holds n x m b) (top : OnTop x (m .priority) b) (short info : ℕ)
     (a : AheadOn n (x .station) (m .priority) (b .wire) short info)
   where
-    abbrev q : Quiet b
+    abbrev q : Quiet (h .limit) b
     q = h .quiet
 
     inside : x .station < b .n
@@ -113,6 +114,7 @@ module _ (n : ℕ) (x : Spot) (m : Message) (b : Bench) (h : Holds n x m b) (top
               not-own = ap (own x) is ∙ own-not x (q .to) f onward none;
               holds =
                   record {
+                    limit = h .limit;
                     quiet = quiet-step b q;
                     size = step-n b q ∙ h .size;
                     member = h .member;

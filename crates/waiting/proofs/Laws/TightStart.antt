@@ -21,7 +21,7 @@ use Rattle.parts.specs.declared.moves.Event.the-variants.{Start}
 use Rattle.parts.specs.declared.frame.Whom.the-variants.{Nobody}
 use Rattle.station.specs.declared.station.Station.{Station}
 use Rattle.station.specs.declared.station.Answer.{Answer}
-use Rattle.bench.specs.Ring.{stationAt, ringOf}
+use Rattle.bench.specs.Ring.{stationAt, ringWith}
 use Rattle.bench.specs.Calls.{queue}
 use Rattle.bench.specs.Runs.{queued, afterEvent, final}
 use Rattle.bench.specs.declared.ring.Bench.{Bench}
@@ -56,21 +56,21 @@ starts s = go (eqb (moveOf (stateOf s) Start) runs) (eqb (s .own) 0)
     go false u = record { same-sends = refl; none-flies = λ e. e }
 
 -- the foreign message has been queued
-abbrev pub ready : ℕ → Bench
-ready n = queue (ringOf n) (n - 1) 1 5 0 1492 .bench
+abbrev pub ready : ℕ → ℕ → Bench
+ready n limit = queue (ringWith n limit) (n - 1) 1 5 0 1492 .bench
 
-module _ (n : ℕ) (three : 3 ≤ n) (most : n ≤ 64) where
+module _ (n limit : ℕ) (three : 3 ≤ n) (most : n ≤ 64) (low : 1 ≤ limit) (high : limit ≤ 15) where
   two : 2 ≤ n
   two = omega arith
 
-  unused-start : (p : ℕ) → p < n → Unused n p (stationAt (ringOf n) p)
+  unused-start : (p : ℕ) → p < n → Unused n limit p (stationAt (ringWith n limit) p)
   unused-start p h =
-      subst (Unused n p) (sym (ring-at n two most p h))
+      subst (Unused n limit p) (sym (ring-at n limit two most p h))
       (record {
-        member = begun n two most p h .member;
-        takes-part = queues (begun n two most p h .stands);
-        empty = starts (made n 1 p) .same-sends;
-        none-flies = starts (made n 1 p) .none-flies refl;
+        member = begun n limit two most low high p h .member;
+        takes-part = queues (begun n limit two most low high p h .stands);
+        empty = starts (made n limit p) .same-sends;
+        none-flies = starts (made n limit p) .none-flies refl;
       })
 
   -- ---- the foreign message
@@ -79,62 +79,63 @@ module _ (n : ℕ) (three : 3 ≤ n) (most : n ≤ 64) where
   proper-foreign =
       record { member = omega arith; another = λ e. omega arith; some = omega arith; most = omega arith; channel-fits = omega arith; length-fits = omega arith }
 
-  ready-quiet : Quiet (ready n)
-  ready-quiet = quiet-queue (ringOf n) (quiet-start n two most) (n - 1) 1 5 0 1492
+  ready-quiet : Quiet limit (ready n limit)
+  ready-quiet = quiet-queue (ringWith n limit) (quiet-start n limit two most low high) (n - 1) 1 5 0 1492
 
-  ready-n : ready n .n ≡ n
+  ready-n : ready n limit .n ≡ n
   unfolding final afterEvent
-  ready-n = reached-n n two most (queued (n - 1) 1 5 0 1492 ∷ [])
+  ready-n = reached-n n limit two most low high (queued (n - 1) 1 5 0 1492 ∷ [])
 
-  ready-last : waiting (stationAt (ready n) (n - 1)) ≡ foreign ∷ []
+  ready-last : waiting (stationAt (ready n limit) (n - 1)) ≡ foreign ∷ []
   ready-last =
-      queue-here (ringOf n) (quiet-start n two most) n (ring-n n two most) (n - 1) (omega arith) (unused-start (n - 1) (omega arith)) 1 5 0 1492 proper-foreign
+      queue-here (ringWith n limit) (quiet-start n limit two most low high) n (ring-n n limit two most) (n - 1) (omega arith) (unused-start (n - 1) (omega arith)) 1 5 0 1492 proper-foreign
 
-  ready-unused : (p : ℕ) → p < n → (p ≡ n - 1 → ⊥) → Unused n p (stationAt (ready n) p)
+  ready-unused : (p : ℕ) → p < n → (p ≡ n - 1 → ⊥) → Unused n limit p (stationAt (ready n limit) p)
   ready-unused p h o =
-      subst (Unused n p)
-      (sym (queue-other (ringOf n) (quiet-start n two most) n (ring-n n two most) (n - 1) (omega arith) (unused-start (n - 1) (omega arith)) 1 5 0 1492 proper-foreign p o))
+      subst (Unused n limit p)
+      (sym (queue-other (ringWith n limit) (quiet-start n limit two most low high) n (ring-n n limit two most) (n - 1) (omega arith) (unused-start (n - 1) (omega arith)) 1 5 0 1492 proper-foreign p o))
       (unused-start p h)
 
   -- ---- the message
 
-  first-unused : Unused n 0 (stationAt (ready n) 0)
+  first-unused : Unused n limit 0 (stationAt (ready n limit) 0)
   first-unused = ready-unused 0 (omega arith) (λ e. omega arith)
 
   proper-its : Proper n 0 1 9 0 0
   proper-its =
       record { member = omega arith; another = λ e. omega arith; some = omega arith; most = omega arith; channel-fits = omega arith; length-fits = omega arith }
 
-  pub its-place : lowestFree (all (stationAt (ready n) 0 .sends)) ≡ 0
+  pub its-place : lowestFree (all (stationAt (ready n limit) 0 .sends)) ≡ 0
   its-place = unused-place first-unused
 
-  pub its-accepted : queue (ready n) 0 1 9 0 0 .number ≡ 0
-  its-accepted = queue-number (ready n) ready-quiet n ready-n 0 (omega arith) first-unused 1 9 0 0 proper-its
+  pub its-accepted : queue (ready n limit) 0 1 9 0 0 .number ≡ 0
+  its-accepted = queue-number (ready n limit) ready-quiet n ready-n 0 (omega arith) first-unused 1 9 0 0 proper-its
 
   -- the run begins
-  pub begins : Runs n (load n (foreign ∷ [])) 0 firstFrame (after n 0) (queue (ready n) 0 1 9 0 0 .bench)
+  pub begins : Runs n (load n (foreign ∷ [])) 0 firstFrame (after n 0) (queue (ready n limit) 0 1 9 0 0 .bench)
   unfolding final afterEvent
   begins =
       record {
-        quiet = quiet-queue (ready n) ready-quiet 0 1 9 0 0;
-        same-n = reached-n n two most (queued (n - 1) 1 5 0 1492 ∷ queued 0 1 9 0 0 ∷ []);
-        wire = queue-wire (ready n) 0 1 9 0 0 ∙ queue-wire (ringOf n) (n - 1) 1 5 0 1492 ∙ first-wire n two most;
+        limit = limit;
+        quiet = quiet-queue (ready n limit) ready-quiet 0 1 9 0 0;
+        same-n = reached-n n limit two most low high (queued (n - 1) 1 5 0 1492 ∷ queued 0 1 9 0 0 ∷ []);
+        wire = queue-wire (ready n limit) 0 1 9 0 0 ∙ queue-wire (ringWith n limit) (n - 1) 1 5 0 1492 ∙ first-wire n limit two most low high;
         loads = λ p h. go p h (eqb p 0) refl (eqb p (n - 1)) refl;
       }
     where
-      same : (p : ℕ) → (p ≡ 0 → ⊥) → stationAt (queue (ready n) 0 1 9 0 0 .bench) p ≡ stationAt (ready n) p
-      same = queue-other (ready n) ready-quiet n ready-n 0 (omega arith) first-unused 1 9 0 0 proper-its
+      same : (p : ℕ) → (p ≡ 0 → ⊥) → stationAt (queue (ready n limit) 0 1 9 0 0 .bench) p ≡ stationAt (ready n limit) p
+      same = queue-other (ready n limit) ready-quiet n ready-n 0 (omega arith) first-unused 1 9 0 0 proper-its
 
-      go : (p : ℕ) → p < n → (t : Bool) → eqb p 0 ≡ t → (u : Bool) → eqb p (n - 1) ≡ u → waiting (stationAt (queue (ready n) 0 1 9 0 0 .bench) p) ≡ load n (foreign ∷ []) p
+      go : (p : ℕ) → p < n → (t : Bool) → eqb p 0 ≡ t → (u : Bool) → eqb p (n - 1) ≡ u → waiting (stationAt (queue (ready n limit) 0 1 9 0 0 .bench) p) ≡ load n (foreign ∷ []) p
       go p h true e u d =
           let z : p ≡ 0 = eqb-true p 0 e in
-          ap (λ (i : ℕ). waiting (stationAt (queue (ready n) 0 1 9 0 0 .bench) i)) z
-          ∙ queue-here (ready n) ready-quiet n ready-n 0 (omega arith) first-unused 1 9 0 0 proper-its
+          ap (λ (i : ℕ). waiting (stationAt (queue (ready n limit) 0 1 9 0 0 .bench) i)) z
+          ∙ queue-here (ready n limit) ready-quiet n ready-n 0 (omega arith) first-unused 1 9 0 0 proper-its
           ∙ sym (ap (load n (foreign ∷ [])) z ∙ load-first n (foreign ∷ []))
       go p h false e true d =
           let z : p ≡ n - 1 = eqb-true p (n - 1) d in
           ap waiting (same p (eqb-false p 0 e))
-          ∙ ap (λ (i : ℕ). waiting (stationAt (ready n) i)) z
+          ∙ ap (λ (i : ℕ). waiting (stationAt (ready n limit) i)) z
           ∙ ready-last
           ∙ sym (ap (load n (foreign ∷ [])) z ∙ load-last n (foreign ∷ []) two)
       go p h false e false d =

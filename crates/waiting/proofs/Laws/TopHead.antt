@@ -97,7 +97,7 @@ listed-priority s w m h =
 
 -- ---- the ring
 
-module _ (b : Bench) (q : Quiet b) (x : Spot) (m : Message) (member : x .station < b .n) (at : m .place ≡ x .place) (w : Waits b (x .station) m) (top : OnTop x (m .priority) b) where
+module _ {limit : ℕ} (b : Bench) (q : Quiet limit b) (x : Spot) (m : Message) (member : x .station < b .n) (at : m .place ≡ x .place) (w : Waits b (x .station) m) (top : OnTop x (m .priority) b) where
   some : 1 ≤ m .priority
   some = listed-priority (stationAt b (x .station)) (q .picture .members (x .station) member .whole) m (w .listed)
 

@@ -1,4 +1,4 @@
--- Demand 3: on a fault-free ring of N stations, from 2 to 64, an accepted message that stays strictly above every other waiting one until
+-- Demand 3: on a fault-free ring of N stations, from 2 to 64, with a retry limit from 1 to 15, an accepted message that stays strictly above every other waiting one until
 -- it goes waits for at most 2N+1 short frames and one foreign information frame; it goes no later than as the (2N+3)th frame composed after
 -- its acceptance, and what goes is the message. Whatever ran before, and whatever queue calls fall between the steps. Assumes nothing.
 use mathlib.Core.Path.{_≡_, refl, subst, _∙_}
@@ -58,19 +58,20 @@ module _ (n : ℕ) (x : Spot) (m : Message) (b : Bench) (h : Holds n x m b) (aft
       }
 
 -- every ring, every run, every accepted call, and everything after it
-pub bound : (n : ℕ) → 2 ≤ n → n ≤ 64 → (es : List Event) (from to priority channel length : ℕ)
-    → queue (atQueue n es) from to priority channel length .number ≡ 0
+pub bound : (n limit : ℕ) → 2 ≤ n → n ≤ 64 → 1 ≤ limit → limit ≤ 15 → (es : List Event) (from to priority channel length : ℕ)
+    → queue (atQueue n limit es) from to priority channel length .number ≡ 0
     → (after : List Event)
-    → StaysOnTop (spotFor (atQueue n es) from) priority (queue (atQueue n es) from to priority channel length .bench) after
-    → Bound n (spotFor (atQueue n es) from) (newMessage (stationAt (atQueue n es) from) to priority channel length)
-    (queue (atQueue n es) from to priority channel length .bench) after
-bound n two most es from to priority channel length z after t =
-    let b : Bench = atQueue n es in
-    let q : Quiet b = reached-quiet n two most es in
-    let size : b .n ≡ n = reached-n n two most es in
+    → StaysOnTop (spotFor (atQueue n limit es) from) priority (queue (atQueue n limit es) from to priority channel length .bench) after
+    → Bound n (spotFor (atQueue n limit es) from) (newMessage (stationAt (atQueue n limit es) from) to priority channel length)
+    (queue (atQueue n limit es) from to priority channel length .bench) after
+bound n limit two most low high es from to priority channel length z after t =
+    let b : Bench = atQueue n limit es in
+    let q : Quiet limit b = reached-quiet n limit two most low high es in
+    let size : b .n ≡ n = reached-n n limit two most low high es in
     let a = accepted-waits b q from to priority channel length z in
     held-bound n (spotFor b from) (newMessage (stationAt b from) to priority channel length) (queue b from to priority channel length .bench)
     (record {
+      limit = limit;
       quiet = quiet-queue b q from to priority channel length;
       size = queue-n b q from to priority channel length ∙ size;
       member = subst (λ (i : ℕ). from < i) size (a .member);

@@ -1,6 +1,7 @@
--- The bound for N = 3: the run that reaches it has 7 short frames and 2,030 octets before the message's own. Assumes nothing.
+-- The bound for N = 3, whatever the retry limit: the run that reaches it has 7 short frames and 2,030 octets before the message's own. Assumes nothing.
 use mathlib.Core.Path.{_≡_}
 use mathlib.Core.List.{List}
+use Prim.Native.Nat.{ℕ, _≤_}
 use native.Mathlib.Omega.{arith}
 use Rattle.bench.specs.Calls.{queue}
 use Rattle.bench.specs.Runs.{stepping}
@@ -9,13 +10,14 @@ use Rattle.bench.specs.declared.rows.Row.{Row}
 use Rattle.waiting.specs.Waiting.{spotFor, before, shorts, octetsOnWire, atQueue}
 use Rattle.waiting.proofs.Theorems.Tight.{foreignQueued, tight}
 
-abbrev pub bench : Bench
-bench = atQueue 3 (foreignQueued 3)
+module _ (limit : ℕ) where
+  abbrev pub bench : Bench
+  bench = atQueue 3 limit (foreignQueued 3)
 
-abbrev pub rows : List Row
-rows = before (spotFor bench 0) (queue bench 0 1 9 0 0 .bench) (stepping 9)
+  abbrev pub rows : List Row
+  rows = before (spotFor bench 0) (queue bench 0 1 9 0 0 .bench) (stepping 9)
 
-pub three : (shorts rows ≡ 7) × (octetsOnWire rows ≡ 2030)
-three =
-    let t = tight 3 (omega arith) (omega arith) .reaches in
-    (t .short-frames, t .octets)
+  pub three : 1 ≤ limit → limit ≤ 15 → (shorts rows ≡ 7) × (octetsOnWire rows ≡ 2030)
+  three low high =
+      let t = tight 3 limit (omega arith) (omega arith) low high .reaches in
+      (t .short-frames, t .octets)

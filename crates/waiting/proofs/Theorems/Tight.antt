@@ -1,4 +1,4 @@
--- "For every N from 3 a run that reaches both figures": after `ring N`, a message of 1,492 octets is queued at station N-1, then one
+-- "For every N from 3 a run that reaches both figures", whatever the retry limit: on a new ring a message of 1,492 octets is queued at station N-1, then one
 -- of a higher priority at station 0, whose own token is on the wire already. It stays on top, and goes as frame 2N+3, after 2N+1 short
 -- frames and the foreign information frame, which is as long as one can be. Assumes nothing.
 use mathlib.Core.Path.{_≡_, sym, subst}
@@ -34,9 +34,9 @@ reached n x b c =
       which = omega (arith, c .figures .frames);
     }
 
-module _ (n : ℕ) (three : fewest ≤ n) (most : n ≤ 64) where
+module _ (n limit : ℕ) (three : fewest ≤ n) (most : n ≤ 64) (low : 1 ≤ limit) (high : limit ≤ 15) where
   itsBench : Bench
-  itsBench = queue (ready n) 0 1 9 0 0 .bench
+  itsBench = queue (ready n limit) 0 1 9 0 0 .bench
 
   counted : Counts spot 9 itsBench (stepping (2 * n + 3)) (2 * n + 1) 1
   unfolding itsBench
@@ -44,17 +44,17 @@ module _ (n : ℕ) (three : fewest ≤ n) (most : n ≤ 64) where
       let short : 0 + n + 1 + n ≡ 2 * n + 1 = omega arith in
       let steps : 2 * n + 1 + 1 + 1 ≡ 2 * n + 3 = omega arith in
       subst (λ (k : ℕ). Counts spot 9 itsBench (stepping k) (2 * n + 1) 1) steps
-      (subst (λ (s : ℕ). Ahead spot 9 itsBench s 1) short (whole-run n three most itsBench (begins n three most)))
+      (subst (λ (s : ℕ). Ahead spot 9 itsBench s 1) short (whole-run n three most itsBench (begins n limit three most low high)))
 
-  its-counted : Counts (spotFor (ready n) 0) 9 itsBench (stepping (2 * n + 3)) (2 * n + 1) 1
+  its-counted : Counts (spotFor (ready n limit) 0) 9 itsBench (stepping (2 * n + 3)) (2 * n + 1) 1
   its-counted =
-      subst (λ (p : ℕ). Counts (record { station = 0; place = p }) 9 itsBench (stepping (2 * n + 3)) (2 * n + 1) 1) (sym (its-place n three most)) counted
+      subst (λ (p : ℕ). Counts (record { station = 0; place = p }) 9 itsBench (stepping (2 * n + 3)) (2 * n + 1) 1) (sym (its-place n limit three most low high)) counted
 
-  pub tight : Tight n (atQueue n (foreignQueued n))
+  pub tight : Tight n (atQueue n limit (foreignQueued n))
   unfolding itsBench final afterEvent
   tight =
       record {
-        accepted = its-accepted n three most;
+        accepted = its-accepted n limit three most low high;
         stays = its-counted .stays;
-        reaches = reached n (spotFor (ready n) 0) itsBench its-counted;
+        reaches = reached n (spotFor (ready n limit) 0) itsBench its-counted;
       }

@@ -47,7 +47,7 @@ use Rattle.station.specs.declared.station.Station.{Station}
 use Rattle.station.proofs.station.Station as T
 use Rattle.bench.specs.Ring.{nobody}
 use Rattle.bench.specs.Delivery.{handed, delivered}
-use Rattle.bench.specs.Table.{handingOf, goesOn, stepText, printed}
+use Rattle.bench.specs.Table.{hears, handingOf, goesOn, stepText, printed}
 use Rattle.bench.specs.declared.table.Going.{Going}
 use Rattle.bench.specs.declared.table.Handing.{Handing}
 use Rattle.bench.proofs.Laws.Stepping.{handing-asks, on-less, OneDone, one-step}
@@ -87,7 +87,7 @@ valD = EL.val D.the-type D′.the-laws
 
 -- what `hand` and `print` say of their results and of the last lists
 abbrev Handed : List Station → Handing → Dispatch → List Station → Type 0
-Handed ys h r zs = (r ≡ handed (h .n) (h .frame) (h .from) (h .to) (h .to) (getD ys (h .to) nobody) .sent) × (zs ≡ delivered (h .n) (h .frame) (h .from) (h .to) 0 ys)
+Handed ys h r zs = (r ≡ handed (h .n) (hears h) (h .frame) (h .from) (h .to) (h .to) (getD ys (h .to) nobody) .sent) × (zs ≡ delivered (h .n) (hears h) (h .frame) (h .from) (h .to) 0 ys)
 
 abbrev Printed : List ℕ → Going → ℕ → Dispatch → Going → List ℕ → Type 0
 Printed os g to r p us = (p ≡ printed g to r) × (us ≡ laid os (g .used) (stepText to r))

@@ -47,15 +47,14 @@ use denote.Triple.Table.{entered, cited}
 use denote.Triple.Walked.{says, needs, Stays, stay-slice, stay-none, walkOf, Walks, ends-at, walked, goes-slice, goes-none, walk-meets}
 use denote.Exit.{yes}
 use Rattle.parts.specs.Live.{seats}
-use Rattle.parts.specs.Frames.{failingOf}
 use Rattle.station.specs.Heard.{frameRule}
 use Rattle.parts.specs.declared.frame.Dispatch.{Dispatch}
 use Rattle.parts.specs.declared.frame.Dispatch.the-variants.{Nothing}
 use Rattle.station.specs.declared.station.Station.{Station}
 use Rattle.bench.specs.declared.table.Handing.{Handing}
 use Rattle.bench.specs.Ring.{nobody}
-use Rattle.bench.specs.Delivery.{isNobody, replyTo}
-use Rattle.bench.specs.Table.{touchedIn}
+use Rattle.bench.specs.Delivery.{isQuiet, replyTo}
+use Rattle.bench.specs.Table.{hears, touchedIn}
 use Rattle.parts.proofs.Laws.Live.{seats-most}
 use Rattle.bench.proofs.Laws.Passing.{Passed, passed-none, passed-table, passed-reply}
 use Rattle.bench.proofs.Laws.Again.{LentAgain, lends-again, comes-back}
@@ -144,7 +143,7 @@ module _ {M : Type 1} (𝓤 : URA M) (H : Heap 𝓤) (A : Atoms 𝓤) (mem : Mem
   rep-of j to sent reply d = exE 𝓤 _ (λ ws. snd∗ 𝓤 (sem 𝓤 H A (lasts rep.ended tt (j, (to, (sent, (reply, tt)))) ws)) (fact 𝓤 (d ≡ replyTo j to sent reply)))
 
 module _ {M : Type 1} (𝓤 : URA M) (H : Heap 𝓤) (A : Atoms 𝓤) (W : Given 𝓤 H A) (mem : Memory → SProp 𝓤) (run : Routine → Fun 𝓤) (κ : Lft) (q : Share) (b o : ℕ) (γ : GName) (ys : List Station) (h : Handing)
-    (h-is : Is Hd.the-row h (LL.vals Hd.the-type Hd′.the-laws h)) (room : Room T.the-row (length ys)) (full : length ys ≡ 64) (members : h .m ≡ seats (h .n)) (quiet : h .quiet ≡ isNobody (failingOf (h .frame))) where
+    (h-is : Is Hd.the-row h (LL.vals Hd.the-type Hd′.the-laws h)) (room : Room T.the-row (length ys)) (full : length ys ≡ 64) (members : h .m ≡ seats (h .n)) (quiet : h .quiet ≡ isQuiet (h .frame)) where
   abbrev Arg : Type 0
   Arg = RefT (List Station) × (Handing × Unit {0})
 
@@ -208,20 +207,20 @@ module _ {M : Type 1} (𝓤 : URA M) (H : Heap 𝓤) (A : Atoms 𝓤) (W : Given
       qed W [] ∵ nothing ! $ owned ! Ds.the-row (Is Ds.the-row) (EL.makes Ds.the-type Ds′.the-plain 𝓤 H A) reply _ reply-is $ fjoin ! $ owned ! Ds.the-row (Is Ds.the-row) (EL.makes Ds.the-type Ds′.the-plain 𝓤 H A) sent _ sent-is $ fjoin ! $
       owned ! u8 (Is u8) (uint-makes 𝓤 H A W w8) (h .to) _ (refl, to-fits) $ fjoin ! $ owned ! usize (Is usize) (uint-makes 𝓤 H A W w64) j _ (refl, j-fits) $ fjoin ! $ nothing ! $ join ! $ frame ! $ done !
 
-  exits : (cur : List Station) (reply : Dispatch) (j : ℕ) → Sound reply → Passed (h .n) (h .frame) (h .from) (h .to) ys cur reply j → h .m ≤ j
+  exits : (cur : List Station) (reply : Dispatch) (j : ℕ) → Sound reply → Passed (h .n) (hears h) (h .frame) (h .from) (h .to) ys cur reply j → h .m ≤ j
       → ent 𝓤 (⋆ 𝓤 H A (‵ (MutSlice (named 0) κ T.the-row .own (x γ cur) (s ∷ [])) ∷ ‵ (flft κ q) ∷ [])) (Post (dv reply))
   exits cur reply j reply-is passed over =
       let all : seats (h .n) ≤ j = omega (arith, members) in
       qed W (‵ (MutSlice (named 0) κ T.the-row .own (x γ cur) (s ∷ [])) ∷ ‵ (flft κ q) ∷ []) ∵
       suffices ! _ (ends-at 𝓤 H A self.ended stayed (self.clauses 𝓤 H A mem run) W (((κ, tt), (q, tt), tt, a, at), tt) (dv reply) reply (cur, (tt, tt)) (passed .long, (tt, tt))) $
-      says ! (passed-reply (h .n) (h .frame) (h .from) (h .to) ys cur reply j passed all full, passed-table (h .n) (h .frame) (h .from) (h .to) ys cur reply j passed all full) $
+      says ! (passed-reply (h .n) (hears h) (h .frame) (h .from) (h .to) ys cur reply j passed all full, passed-table (h .n) (hears h) (h .frame) (h .from) (h .to) ys cur reply j passed all full) $
       nothing ! $ move ! (2 ∷ 0 ∷ []) $ join ! $ frame ! $
       nothing ! $ owned ! Hd.the-row (Is Hd.the-row) (LL.makes Hd.the-type Hd′.the-plain 𝓤 H A) h _ h-is $ fjoin ! $ move ! (1 ∷ 0 ∷ []) $ fjoin ! $ frame ! $
       owned ! Ds.the-row (Is Ds.the-row) (EL.makes Ds.the-type Ds′.the-plain 𝓤 H A) reply _ reply-is $ done !
 
   -- how far the loop is: the table, the reply and the position
   abbrev Upto : Type 0
-  Upto = (cur : List Station) × (reply : Dispatch) × (j : ℕ) × (j ≤ h .m) × Sound reply × Passed (h .n) (h .frame) (h .from) (h .to) ys cur reply j
+  Upto = (cur : List Station) × (reply : Dispatch) × (j : ℕ) × (j ≤ h .m) × Sound reply × Passed (h .n) (hears h) (h .frame) (h .from) (h .to) ys cur reply j
 
   abbrev Nearer : Upto → Upto → Type 0
   Nearer u t = h .m - u .2 < h .m - t .2
@@ -331,7 +330,7 @@ module _ {M : Type 1} (𝓤 : URA M) (H : Heap 𝓤) (A : Atoms 𝓤) (W : Given
         again ! Nearer At t (ws .0, next, r + 1, omega arith, next-sound, turn-hand h quiet ys cur reply (h .m) j r members (len ∙ full) at-most found less sent next (ws .0) (said .0) (said .1) kept) (omega (arith, found .from)))))))))))))))))))))
 
     abbrev start : Upto
-    start = (ys, Nothing, 0, omega arith, none, passed-none (h .n) (h .frame) (h .from) (h .to) ys)
+    start = (ys, Nothing, 0, omega arith, none, passed-none (h .n) (hears h) (h .frame) (h .from) (h .to) ys)
 
     -- the loop, from its start, and the rest of the body
     begins : Sq W (At start) (runs C Λ En mirs.t-3 (atRet En Post))
@@ -354,7 +353,7 @@ module _ {M : Type 1} (𝓤 : URA M) (H : Heap 𝓤) (A : Atoms 𝓤) (W : Given
   self-walks : (𝓣 : Tables 𝓤 H) → FmC 𝓤 H (W .laws) (𝓣 .C) → Triple 𝓤 (𝓣 .C #find) (Find 𝓤 H A mem run) → Triple 𝓤 (𝓣 .C #hear) (Hear 𝓤 H A mem run) → Triple 𝓤 (𝓣 .C #rep) (Rep 𝓤 H A mem run)
       → Walks 𝓤 H A self.ended stayed (WpFn 𝓤 H (𝓣 .C) (𝓣 .Λ) code.function) (self.clauses 𝓤 H A mem run)
   self-walks 𝓣 fm known-find known-hear known-rep = walked 𝓤 H A self.ended stayed (self.clauses 𝓤 H A mem run) (WpFn 𝓤 H (𝓣 .C) (𝓣 .Λ) code.function) (λ κs. (slice-vals, (LL.vals Hd.the-type Hd′.the-laws, tt))) (λ κs. (mut-slice-tells (named 0) (κs .0) T.the-row, (LL.tells Hd.the-type Hd′.the-laws, tt)))
-      (λ κs qs bounds a g are. needs 𝓤 ((length (a .0 .now) ≡ 64) × ((a .1 .0 .m ≡ seats (a .1 .0 .n)) × (a .1 .0 .quiet ≡ isNobody (failingOf (a .1 .0 .frame))))) _ (λ asked.
+      (λ κs qs bounds a g are. needs 𝓤 ((length (a .0 .now) ≡ 64) × ((a .1 .0 .m ≡ seats (a .1 .0 .n)) × (a .1 .0 .quiet ≡ isQuiet (a .1 .0 .frame)))) _ (λ asked.
       walk 𝓤 H A W mem run (κs .0) (qs .0) (a .0 .ptr .0) (a .0 .ptr .1) (a .0 .name) (a .0 .now) (a .1 .0) (are .1 .0) (are .0 .0 .1) (asked .0) (asked .1 .0) (asked .1 .1) 𝓣 fm known-find known-hear known-rep))
 
 self-meets : {M : Type 1} (𝓤 : URA M) (H : Heap 𝓤) (A : Atoms 𝓤) → Given 𝓤 H A → (mem : Memory → SProp 𝓤) (run : Routine → Fun 𝓤) (𝓣 : Tables 𝓤 H)

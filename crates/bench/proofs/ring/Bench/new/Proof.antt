@@ -4,17 +4,17 @@ use Prim.Native.Nat.{suc, _-_, _≤_}
 use native.Mathlib.Omega.{arith}
 use lib.ListN.{length, length-set}
 use Rattle.parts.proofs.Laws.Live.{seats-most}
-use Rattle.bench.specs.Ring.{startDown, ringOf}
+use Rattle.bench.specs.Ring.{startDown, ringWith}
 use Rattle.bench.proofs.Laws.Starting.{benchOf, start-begins, start-turn, start-ends}
 use borrow.Author.Needs.{needs}
 use Rattle.bench.proofs.ring.Bench.new.Statement.{statement}
 use Rattle.bench.proofs.ring.Bench.new.Tie as tie
 
 abbrev Inv-loop : tie.InvT-loop
-Inv-loop n stations₀ wire₀ p₀ stations wire p = (p ≤ 64) × (length stations ≡ 64) × (startDown p (benchOf n stations wire) ≡ ringOf n)
+Inv-loop n limit stations₀ wire₀ p₀ stations wire p = (p ≤ 64) × (length stations ≡ 64) × (startDown limit p (benchOf n stations wire) ≡ ringWith n limit)
 
 abbrev μ-loop : tie.MeasureT-loop
-μ-loop n stations₀ wire₀ p₀ stations wire p = p
+μ-loop n limit stations₀ wire₀ p₀ stations wire p = p
 
 new-requires : tie.Need-new-requires Inv-loop μ-loop
 new-requires c κs = search needs
@@ -23,7 +23,7 @@ seats-of-requires : tie.Need-seats-of-requires Inv-loop μ-loop
 seats-of-requires c κs = search needs
 
 loop-holds : tie.Need-loop-holds Inv-loop μ-loop
-loop-holds c = (omega (arith, seats-most (c .before .before .args .n), c .seats-of .ensures), refl, start-begins (c .before .before .args .n) (c .seats-of .result) (c .before .new .result) (c .seats-of .ensures) (c .before .new .ensures))
+loop-holds c = (omega (arith, seats-most (c .before .before .args .n), c .seats-of .ensures), refl, start-begins (c .before .before .args .n) (c .before .before .args .limit) (c .seats-of .result) (c .before .new .result) (c .seats-of .ensures) (c .before .new .ensures))
 
 sub-p : tie.Need-sub-p Inv-loop μ-loop
 sub-p c = omega arith
@@ -54,13 +54,13 @@ loop-again c =
     let l = c .before .before .before .before .before .loop in (
       omega arith,
       length-set (l .stations) (l .p - 1) (c .before .before .start .result .station) ∙ l .inv .1,
-      start-turn (c .before .before .before .before .before .before .before .before .args .n) (l .p - 1) (l .p) (l .stations) (l .wire) (c .put-on .result) (c .before .before .before .new2 .result) (c .before .before .start .result) (ringOf (c .before .before .before .before .before .before .before .before .args .n))
+      start-turn (c .before .before .before .before .before .before .before .before .args .n) (c .before .before .before .before .before .before .before .before .args .limit) (l .p - 1) (l .p) (l .stations) (l .wire) (c .put-on .result) (c .before .before .before .new2 .result) (c .before .before .start .result) (ringWith (c .before .before .before .before .before .before .before .before .args .n) (c .before .before .before .before .before .before .before .before .args .limit))
           (omega arith) (c .before .before .before .new2 .ensures) (c .before .before .start .ensures) (c .put-on .ensures) (l .inv .2),
     )
 
 returns : tie.Need-returns Inv-loop μ-loop
 returns c =
-    start-ends (c .before .loop .p) _ _ (omega arith) (c .before .loop .inv .2)
+    start-ends _ (c .before .loop .p) _ _ (omega arith) (c .before .loop .inv .2)
 
 pub new-spec : {M : Type 1} → statement M
 new-spec =
