@@ -9,7 +9,7 @@ use Rattle.parts.specs.Messages.{all, flies, fits, only}
 use Rattle.parts.specs.Frames.{numberOf, flight, failingOf}
 use Rattle.station.specs.Strike.{Struck}
 use Rattle.station.specs.Stations.{awaitedOf, withTurn, withSends, quiet}
-use Rattle.station.specs.Heard.{acknowledged, landed, acknowledge, failed, receive, stored, handle, respond, heard}
+use Rattle.station.specs.Heard.{Stored, acknowledged, landed, acknowledge, failed, receive, stored, handle, respond, heard}
 use Rattle.station.specs.Timer.{unanswered, afterStrike}
 use Rattle.wholeness.specs.Whole.{apart}
 use Rattle.parts.specs.declared.moves.State.the-variants.{Idle}
@@ -23,7 +23,6 @@ use Rattle.parts.specs.declared.frame.Frame.the-variants.{Token, Transmit, Info
 use Rattle.parts.specs.declared.frame.Dispatch.{Dispatch}
 use Rattle.parts.specs.declared.frame.Dispatch.the-variants.{Nothing}
 use Rattle.station.specs.declared.station.Station.{Station}
-use Rattle.station.specs.declared.rules.heard.Stored.{Stored}
 use Rattle.parts.proofs.Laws.Choose.{pick-true, pick-false}
 use Rattle.parts.proofs.Laws.Messages.{only-length}
 use Rattle.station_theorems.proofs.Laws.Kept.{apart-only}

@@ -16,7 +16,7 @@ use Rattle.plain_rules.specs.Round.{bidOf, ownBid, forward, startRound}
 use Rattle.station.specs.Start.{started, startRule}
 use Rattle.station.specs.Strike.{Loss, Struck, strike, giveUpTo, giveUpAt, giveUpFlight, leave, messageAt, nothingGone, told, stopped}
 use Rattle.plain_rules.specs.Heard.{newly}
-use Rattle.station.specs.Heard.{acknowledged, landed, acknowledge, strikeOther, strikeHeard, failed, nothingMore, heardMessage, receive, stored, handle, respond, heard, frameRule}
+use Rattle.station.specs.Heard.{Stored, acknowledged, landed, acknowledge, strikeOther, strikeHeard, failed, nothingMore, heardMessage, receive, stored, handle, respond, heard, frameRule}
 use Rattle.station.specs.Timer.{unanswered, afterStrike, silence, onTimer, timerRule}
 use Rattle.plain_rules.specs.Resend.{tokenAgain, renamed, resend}
 use Rattle.station.specs.Queue.{queueNumber, newMessage, accepted, queueRule}
@@ -34,7 +34,6 @@ use Rattle.parts.specs.declared.frame.Dispatch.the-variants.{Nothing, Sent}
 use Rattle.parts.specs.declared.moves.Event.{Event}
 use Rattle.parts.specs.declared.moves.State.{State}
 use Rattle.parts.specs.declared.moves.State.the-variants.{Idle, Alone, Excluded}
-use Rattle.station.specs.declared.rules.heard.Stored.{Stored}
 use Rattle.plain_rules.specs.declared.round.Sight.{Sight}
 use Rattle.plain_rules.specs.declared.round.Bid.{Bid}
 use Rattle.station.specs.declared.station.Handled.{Handled}
