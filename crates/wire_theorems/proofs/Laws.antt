@@ -1,0 +1,6 @@
+-- Laws that the theorems use, one idea a file.
+pub mod Addresses
+pub mod Packets
+pub mod Rings
+pub mod Sent
+pub mod Stores

@@ -1,0 +1,3 @@
+-- What a station sends, every other member reads as that frame, one theorem a file.
+pub mod FitBoth
+pub mod Conveyed
