@@ -4,3 +4,6 @@ pub mod Packets
 pub mod Rings
 pub mod Sent
 pub mod Stores
+pub mod Laid
+pub mod Heard
+pub mod Joined

@@ -16,7 +16,10 @@ use Rattle.parts.specs.Choose.{pick}
 use Rattle.parts.specs.Frames.{fit}
 use Rattle.parts.specs.Moves.{moveOf, runs}
 use Rattle.parts.specs.declared.moves.Event.the-variants.{Heard}
+use Rattle.parts.specs.declared.frame.TokenFrame.{TokenFrame}
+use Rattle.parts.specs.declared.frame.InformationFrame.{InformationFrame}
 use Rattle.parts.specs.declared.frame.Frame.{Frame}
+use Rattle.parts.specs.declared.frame.Frame.the-variants.{Token, Information}
 use Rattle.parts.specs.declared.frame.Dispatch.{Dispatch}
 use Rattle.parts.specs.declared.frame.Dispatch.the-variants.{Sent}
 use Rattle.station.specs.Stations.{stateOf, awaitedOf, answered, moved, unless}
@@ -24,6 +27,7 @@ use Rattle.station.specs.Heard.{checks, frameRule}
 use Rattle.station.specs.declared.station.Station.{Station}
 use Rattle.station.specs.declared.station.Answer.{Answer}
 use Rattle.station_theorems.proofs.Theorems.Awaited.{is-fit}
+use Rattle.records.specs.Layout.{storeLength}
 use Rattle.shell.specs.Packets.{addressOf, packetOf, sentOctets, sentSize, sentTo}
 use Rattle.shell.specs.Places.{carriedIn, informationOf}
 use Rattle.shell.specs.Calls.{ringIn, stationIn, Sending, startAnswer, timerAnswer, frameAnswer, heardThen, packetRule}
@@ -84,7 +88,11 @@ record SendsBy (rec store : List ℕ) (f : Frame) (to : ℕ) (rec′ out′ told
   keeps : Keeps rec by-answer
   awaits : AwaitsSent by-answer
   carries : info ≡ carriedIn store f
+  store-good : (i : InformationFrame) → f ≡ Information i → length store ≡ storeLength
   carries-all : Outgoing (ringIn rec) (by-answer .station) f to → length (carriedIn store f) ≡ informationLength (packetOf (ringIn rec) f)
+
+token-not : {t : TokenFrame} {i : InformationFrame} → Token t ≡ Information i → ⊥
+token-not e = let z : _≡_ {A = ℕ} 0 1 = cc in omega arith
 
 sends-by : {rec store : List ℕ} {f : Frame} {to : ℕ} {rec′ out′ told′ : List ℕ} → Held rec → Sends rec store f to rec′ out′ told′
     → SendsBy rec store f to rec′ out′ told′
@@ -103,6 +111,7 @@ sends-by p (on-start rec store out told rec′ out′ told′ f to m e) =
       keeps = start-sure rec (held-sure p);
       awaits = start-awaits (stationIn rec);
       carries = sym none;
+      store-good = λ i q. absurd (token-not (sym (t .1) ∙ q));
       carries-all = λ o. ap length none ∙ ap (λ (x : Frame). informationLength (packetOf (ringIn rec) x)) (sym (t .1));
     }
 sends-by p (on-frame rec store from at packet out told rec′ store′ out′ told′ f to o m e) =
@@ -117,6 +126,7 @@ sends-by p (on-frame rec store from at packet out told rec′ store′ out′ to
       keeps = frame-sure rec (held-sure p) from at packet o;
       awaits = packet-awaits (stationIn rec) (ringIn rec) from at packet;
       carries = ap (informationOf store) e;
+      store-good = λ i q. store-sized rec _ (length store) (length out) (m .sending .answer);
       carries-all = λ k. carried-sized (ringIn rec) _ f to k store (store-sized rec _ (length store) (length out) (m .sending .answer));
     }
 sends-by p (on-timer rec store out told rec′ out′ told′ f to m e) =
@@ -131,6 +141,7 @@ sends-by p (on-timer rec store out told rec′ out′ told′ f to m e) =
       keeps = timer-sure rec (held-sure p);
       awaits = timer-awaits (stationIn rec);
       carries = ap (informationOf store) e;
+      store-good = λ i q. store-sized rec _ (length store) (length out) (m .answer);
       carries-all = λ k. carried-sized (ringIn rec) _ f to k store (store-sized rec _ (length store) (length out) (m .answer));
     }
 
@@ -140,6 +151,10 @@ module _ {rec store : List ℕ} {f : Frame} {to : ℕ} {rec′ out′ told′ : 
 
   after : Outgoing (ringIn rec) (by-call .by-answer .station) f to
   after = outgoing rec (held-sure p) (by-call .by-answer) (by-call .keeps) f to (by-call .awaits f to (by-call .sends))
+
+  -- an information frame is sent with a store of its length
+  pub sends-from-store : (i : InformationFrame) → f ≡ Information i → length store ≡ storeLength
+  sends-from-store = by-call .store-good
 
   -- it is what the station of the record then awaits
   pub sends-outgoing : Outgoing (ringIn rec) (stationIn rec′) f to
