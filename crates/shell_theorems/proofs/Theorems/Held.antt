@@ -14,7 +14,6 @@ use Rattle.codec.specs.Ring.{Ring, RingRead, readRing, position, ringOf, count,
 use Rattle.packet_codec.specs.declared.reading.Read.{Read}
 use Rattle.packet_codec.specs.declared.reading.Read.the-variants.{Refused, Good}
 use Rattle.parts.specs.declared.moves.Event.the-variants.{Heard}
-use Rattle.parts.specs.declared.request.Request.{Request}
 use Rattle.parts.specs.Frames.{fit}
 use Rattle.station.specs.Stations.{answered, moved, unless}
 use Rattle.station.specs.Start.{startRule}
@@ -24,41 +23,28 @@ use Rattle.station.specs.Queue.{queueRule}
 use Rattle.station.specs.Take.{takeRule}
 use Rattle.station.specs.declared.station.Station.{Station}
 use Rattle.station.specs.declared.station.Answer.{Answer}
-use Rattle.station_theorems.proofs.Laws.Sound.{WholeStation}
-use Rattle.station_theorems.proofs.Laws.Small.{Small, pick-keeps}
+use Rattle.station_theorems.specs.Shaped.{WholeStation}
+use Rattle.station_theorems.specs.Small.{Small}
+use Rattle.station_theorems.proofs.Laws.Small.{pick-keeps}
 use Rattle.station_theorems.proofs.Theorems.StaysSmall.{start-keeps-small, frame-small, timer-small, queue-small, take-small, made-small}
 use Rattle.station_theorems.proofs.Theorems.MadeWhole.{made-whole}
 use Rattle.station_theorems.proofs.Theorems.Reached.{calls-keep-whole}
 use Rattle.records.specs.Layout.{recordLength, ringRoom, ownAt}
 use Rattle.records.specs.Record.{stationOctets, ringOctets, recordOctets, readRecord}
-use Rattle.record_theorems.proofs.Laws.Typed.{Typed}
-use Rattle.record_theorems.proofs.Theorems.ReadWrite.{ReadsAs, read-after-write}
+use Rattle.record_theorems.specs.Typed.{Typed}
+use Rattle.record_theorems.specs.RoundTrip.{ReadsAs}
+use Rattle.record_theorems.proofs.Theorems.ReadWrite.{read-after-write}
 use Rattle.record_theorems.proofs.Theorems.Anew.{read-anew}
 use Rattle.shell.specs.Packets.{frameOf}
 use Rattle.shell.specs.Calls.{membersOf, ringIn, stationIn, recordWith, madeFrom, Making, Starting, Hearing, Timing, Queueing, Taking, startAnswer, timerAnswer, frameAnswer, queueAnswer, takeAnswer, heardThen, packetRule}
+use Rattle.shell_theorems.specs.Held.{Held, Sure, by-make, by-start, by-frame, by-timer, by-queue, by-take}
 use Rattle.shell_theorems.proofs.Laws.WholeTyped.{whole-typed}
 use Rattle.shell_theorems.proofs.Laws.HeardFrames.{heard-fit}
 use Rattle.shell_theorems.proofs.Laws.MadeRecords.{good-making, laid-whole, length-record, members-count}
 
 -- ---- a record in a driver's hands: made, and then changed by calls alone, whatever number they give
 
-pub data Held : List ℕ → Type 0 where
-  by-make : (rec file : List ℕ) (own : ℕ) (rec′ : List ℕ) → Making rec file own 0 rec′ → Held rec′
-  by-start : (rec out told : List ℕ) (r : ℕ) (rec′ out′ told′ : List ℕ) → Held rec → Starting rec out told r rec′ out′ told′ → Held rec′
-  by-frame : (rec store : List ℕ) (from to : ℕ) (packet out told : List ℕ) (r : ℕ) (rec′ store′ out′ told′ : List ℕ) → Held rec → Octets packet
-      → Hearing rec store from to packet out told r rec′ store′ out′ told′ → Held rec′
-  by-timer : (rec store out told : List ℕ) (r : ℕ) (rec′ out′ told′ : List ℕ) → Held rec → Timing rec store out told r rec′ out′ told′ → Held rec′
-  by-queue : (rec store : List ℕ) (q : Request) (payload : List ℕ) (r : ℕ) (rec′ store′ : List ℕ) → Held rec
-      → Queueing rec store q payload r rec′ store′ → Held rec′
-  by-take : (rec store : List ℕ) (channel : ℕ) (room told : List ℕ) (r : ℕ) (rec′ room′ told′ : List ℕ) → Held rec
-      → Taking rec store channel room told r rec′ room′ told′ → Held rec′
-
 -- ---- what is known of it
-
-pub record Sure (rec : List ℕ) : Type 0 where
-  pub ok : readRecord rec .ok ≡ true
-  pub whole : WholeStation (stationIn rec)
-  pub small : Small (readRecord rec .ring .n) (readRecord rec .ring .limit) (stationIn rec)
 
 sure-of : (rec : List ℕ) (r : Ring) (s : Station) → ReadsAs rec r s → WholeStation s → Small (r .n) (r .limit) s → Sure rec
 sure-of rec r s a w k =

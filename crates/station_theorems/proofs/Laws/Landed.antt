@@ -25,11 +25,12 @@ use Rattle.parts.specs.declared.frame.Dispatch.the-variants.{Nothing}
 use Rattle.station.specs.declared.station.Station.{Station}
 use Rattle.parts.proofs.Laws.Choose.{pick-true, pick-false}
 use Rattle.parts.proofs.Laws.Messages.{only-length}
+use Rattle.station_theorems.specs.Leaves.{waitsTo, flying, Leaves, AnswerLeaves, anotherThan, stops}
 use Rattle.station_theorems.proofs.Laws.Kept.{apart-only}
 use Rattle.station_theorems.proofs.Laws.Telling.{pick-either}
 use Rattle.station_theorems.proofs.Laws.Only.{only-same, only-all, only-nothing, only-twice}
 use Rattle.station_theorems.proofs.Laws.Leaving.{split-kept, flies-at, flies-not}
-use Rattle.station_theorems.proofs.Laws.Leaves.{waitsTo, flying, Leaves, AnswerLeaves, leaves-then, anotherThan, stops, both-leave, failed-leaves}
+use Rattle.station_theorems.proofs.Laws.Leaves.{leaves-then, both-leave, failed-leaves}
 
 -- ---- an acknowledgement
 

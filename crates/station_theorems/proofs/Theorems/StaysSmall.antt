@@ -42,7 +42,8 @@ use Rattle.station.specs.declared.station.Station.{Station}
 use Rattle.station.specs.declared.station.Answer.{Answer}
 use Rattle.parts.proofs.Laws.Tests.{each-none}
 use Rattle.plain_rules.proofs.Laws.Queue.{queue-good}
-use Rattle.station_theorems.proofs.Laws.Small.{Small, SmallFrame, SmallDispatch, SmallHandled, SmallBest, SmallList, pick-keeps, pick-keeps-if, split-small, push-small, best-small, add-small, next-small, start-small, reply-small, own-small, send-small}
+use Rattle.station_theorems.specs.Small.{Small, SmallFrame, SmallDispatch, SmallHandled, SmallList}
+use Rattle.station_theorems.proofs.Laws.Small.{SmallBest, pick-keeps, pick-keeps-if, split-small, push-small, best-small, add-small, next-small, start-small, reply-small, own-small, send-small}
 
 module _ (n limit : ℕ) where
   -- ---- one field anew

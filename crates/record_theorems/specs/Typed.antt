@@ -1,5 +1,4 @@
 -- A station whose arrays are as long and whose numbers are as small as their types say, as every station that the code holds.
--- Assumes nothing.
 use mathlib.Core.Path.{_≡_}
 use Prim.Native.Nat.{ℕ, _<_}
 use lib.ListN.{length, getD}
