@@ -13,7 +13,7 @@ use Rattle.parts.specs.declared.frame.Dispatch.the-variants.{Sent}
 use Rattle.shell.specs.Packets.{addressOf, packetOf, frameOf}
 use Rattle.shell.specs.Places.{carriedIn}
 use Rattle.shell.specs.Calls.{Starting, Hearing, Timing, startAnswer, frameAnswer, timerAnswer}
-use Rattle.shell_theorems.proofs.Theorems.Held.{Held, by-make, by-start, by-frame, by-timer, by-queue, by-take}
+use Rattle.shell_theorems.specs.Held.{Held, by-make, by-start, by-frame, by-timer, by-queue, by-take}
 
 -- the addresses of a good ring: of 48 bits, none zero, each at one position only
 pub record GoodAddresses (ring : List ℕ) : Type 0 where

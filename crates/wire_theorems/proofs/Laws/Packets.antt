@@ -21,8 +21,8 @@ use Rattle.parts.specs.declared.frame.Whom.{Whom}
 use Rattle.parts.specs.declared.frame.Whom.the-variants.{Nobody, Member}
 use Rattle.parts.specs.declared.frame.Frame.{Frame}
 use Rattle.parts.specs.declared.frame.Frame.the-variants.{Token, Transmit, Information}
-use Rattle.station_theorems.proofs.Laws.Small.{SmallFrame}
-use Rattle.station_theorems.proofs.Theorems.Awaited.{Fit}
+use Rattle.station_theorems.specs.Small.{SmallFrame}
+use Rattle.station_theorems.specs.Awaited.{Fit}
 use Rattle.shell.specs.Packets.{addressOf, whomAddress, whomAt, packetOf, frameOf}
 use Rattle.wire_theorems.specs.Wire.{GoodAddresses, placeless}
 

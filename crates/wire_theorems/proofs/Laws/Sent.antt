@@ -28,14 +28,16 @@ use Rattle.station.specs.declared.station.Answer.{Answer}
 use Rattle.wholeness.specs.Whole.{apart}
 use Rattle.station_theorems.proofs.Laws.Kept.{list-apart}
 use Rattle.station_theorems.proofs.Laws.Sound.{sound}
-use Rattle.station_theorems.proofs.Laws.Small.{SmallFrame, SmallDispatch, pick-keeps}
-use Rattle.station_theorems.proofs.Theorems.Awaited.{Proper}
-use Rattle.station_theorems.proofs.Theorems.GoodList.{GoodList}
+use Rattle.station_theorems.proofs.Laws.Small.{pick-keeps}
+use Rattle.station_theorems.specs.Small.{SmallFrame, SmallDispatch}
+use Rattle.station_theorems.specs.Awaited.{Proper}
+use Rattle.station_theorems.specs.GoodList.{GoodList}
 use Rattle.station_theorems.proofs.Theorems.Whole.{whole-is}
 use Rattle.shell.specs.Packets.{frameOf}
 use Rattle.shell.specs.Calls.{ringIn, heardThen, packetRule}
 use Rattle.shell_theorems.proofs.Laws.MadeRecords.{members-count}
-use Rattle.shell_theorems.proofs.Theorems.Held.{Sure, Keeps}
+use Rattle.shell_theorems.proofs.Theorems.Held.{Keeps}
+use Rattle.shell_theorems.specs.Held.{Sure}
 
 -- ---- each frame that an answer sends has a property
 

@@ -9,7 +9,7 @@ use Rattle.packet_codec.specs.Packet.{packetOctets, informationLength}
 use Rattle.packet_codec.proofs.Theorems.ReadWrite.{read-after-write}
 use Rattle.parts.specs.Frames.{fit}
 use Rattle.parts.specs.declared.frame.Frame.{Frame}
-use Rattle.station_theorems.proofs.Laws.Small.{SmallFrame}
+use Rattle.station_theorems.specs.Small.{SmallFrame}
 use Rattle.station_theorems.proofs.Theorems.Awaited.{fit-is}
 use Rattle.shell.specs.Packets.{packetOf}
 use Rattle.wire_theorems.specs.Wire.{GoodAddresses, OnWire}

@@ -35,7 +35,8 @@ use Rattle.station_theorems.proofs.Laws.Telling.{pick-either}
 use Rattle.records.specs.Layout.{storeLength}
 use Rattle.shell.specs.Places.{fitsPlace, inPlace, putPlace, carriedIn, queued}
 use Rattle.shell.specs.Calls.{stationIn, badStore, queueAnswer, Queueing, ringIn}
-use Rattle.shell_theorems.proofs.Theorems.Held.{Held, held-sure, anew-reads, queue-sure, by-queue}
+use Rattle.shell_theorems.proofs.Theorems.Held.{held-sure, anew-reads, queue-sure}
+use Rattle.shell_theorems.specs.Held.{Held, by-queue}
 use Rattle.wire_theorems.specs.Wire.{Sends, madeOf}
 use Rattle.wire_theorems.specs.Store.{While, ToSend, sendPayload}
 use Rattle.wire_theorems.proofs.Laws.Stores.{buffer-good, own-number, place-fits}
