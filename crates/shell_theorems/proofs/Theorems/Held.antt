@@ -35,6 +35,7 @@ use Rattle.record_theorems.specs.Typed.{Typed}
 use Rattle.record_theorems.specs.RoundTrip.{ReadsAs}
 use Rattle.record_theorems.proofs.Theorems.ReadWrite.{read-after-write}
 use Rattle.record_theorems.proofs.Theorems.Anew.{read-anew}
+use Rattle.parts.specs.declared.request.Request.{Request}
 use Rattle.shell.specs.Packets.{frameOf}
 use Rattle.shell.specs.Calls.{membersOf, ringIn, stationIn, recordWith, madeFrom, Making, Starting, Hearing, Timing, Queueing, Taking, startAnswer, timerAnswer, frameAnswer, queueAnswer, takeAnswer, heardThen, packetRule}
 use Rattle.shell_theorems.specs.Held.{Held, Sure, by-make, by-start, by-frame, by-timer, by-queue, by-take}
