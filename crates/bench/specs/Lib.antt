@@ -6,3 +6,4 @@ pub mod Runs
 pub mod Text
 pub mod Running
 pub mod Table
+pub mod Bystander

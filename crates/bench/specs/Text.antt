@@ -1,6 +1,8 @@
--- What is printed, octet by octet.
+-- What is printed.
 use mathlib.Core.List.{List, [], _∷_, _++_}
 use Prim.Native.Nat.{ℕ, zero, suc, _+_, _/_, _%_, _^_}
+use Prim.Native.Char.{code}
+use Prim.Native.String.{String, [] as end, _∷_ as _∷ₛ_}
 use lib.Dec.{ltb, eqb}
 use Rattle.codec.specs.Order.{firstOf}
 use Rattle.parts.specs.Choose.{pick}
@@ -13,6 +15,11 @@ space = 32
 
 abbrev pub lineFeed : ℕ
 lineFeed = 10
+
+-- the octets of a text
+abbrev pub text : String → List ℕ
+text end = []
+text (c ∷ₛ s) = code c ∷ text s
 
 -- ---- numbers below 100,000
 
@@ -58,19 +65,15 @@ rowsText (r ∷ rs) = rowText r ++ rowsText rs
 
 -- ---- the other lines
 
--- no kind from to prio octets
 abbrev pub heading : List ℕ
-heading =
-    110 ∷ 111 ∷ 32 ∷ 107 ∷ 105 ∷ 110 ∷ 100 ∷ 32 ∷ 102 ∷ 114 ∷ 111 ∷ 109 ∷ 32 ∷ 116 ∷ 111 ∷ 32
-    ∷ 112 ∷ 114 ∷ 105 ∷ 111 ∷ 32 ∷ 111 ∷ 99 ∷ 116 ∷ 101 ∷ 116 ∷ 115 ∷ 10 ∷ []
+heading = text "no kind from to prio octets" ++ lineFeed ∷ []
 
--- bad line
 abbrev pub badLine : List ℕ
-badLine = 98 ∷ 97 ∷ 100 ∷ 32 ∷ 108 ∷ 105 ∷ 110 ∷ 101 ∷ 10 ∷ []
+badLine = text "bad line" ++ lineFeed ∷ []
 
 -- "a refused queue prints `refused` and the number"
 abbrev pub refused : List ℕ
-refused = 114 ∷ 101 ∷ 102 ∷ 117 ∷ 115 ∷ 101 ∷ 100 ∷ 32 ∷ []
+refused = text "refused "
 
 unfoldable pub answerText : ℕ → List ℕ
 answerText number = pick (eqb number 0) [] (refused ++ cell number lineFeed)

@@ -1,1 +1,3 @@
 pub mod Packet
+pub mod Typed
+pub mod RoundTrip

@@ -1,7 +1,6 @@
 -- The page's cases: for each, what the definitions give and what the page says.
 use Prim.Native.Nat.{ℕ, zero, suc, _+_, _-_, _*_}
-use Prim.Native.Char.{code}
-use Prim.Native.String.{String, [] as end, _∷_ as _∷ₛ_}
+use Prim.Native.String.{String}
 use mathlib.Core.Bool.{cond}
 use mathlib.Core.List.{List, [], _∷_, _++_}
 use lib.ListN.{length, take, replicate}
@@ -14,7 +13,7 @@ use Rattle.plain_rules.specs.Heard.{acknowledges}
 use Rattle.plain_rules.specs.Round.{opening}
 use Rattle.bench.specs.Calls.{queue}
 use Rattle.bench.specs.Runs.{queued, stepping}
-use Rattle.bench.specs.Text.{lineFeed}
+use Rattle.bench.specs.Text.{lineFeed, text}
 use Rattle.script.specs.Script.{output}
 use Rattle.waiting.specs.Waiting.{spotFor, before, shorts, octetsOnWire, atQueue, itsRequest, foreignRequest}
 
@@ -47,14 +46,10 @@ wire n = wireOctets (information 1 0 0 n)
 acknowledgedBy : ℕ → ℕ → ℕ → ℕ
 acknowledgedBy k j from = cond (acknowledges (Sent (Token (opening 0 0 k Nobody)) 1) from j) 1 0
 
--- the octets of a text, and of lines of text
-octets : String → List ℕ
-octets end = []
-octets (c ∷ₛ s) = code c ∷ octets s
-
+-- the octets of lines of text
 lines : List String → List ℕ
 lines [] = []
-lines (l ∷ ls) = octets l ++ lineFeed ∷ lines ls
+lines (l ∷ ls) = text l ++ lineFeed ∷ lines ls
 
 -- what the bench prints for a script
 bench : List String → List ℕ
@@ -68,7 +63,7 @@ waits n =
     shorts rows ∷ octetsOnWire rows ∷ []
 
 unfoldable pub cases : List Case
-unfolding members ring file back wire acknowledgedBy octets lines bench waits
+unfolding members ring file back wire acknowledgedBy lines bench waits
 cases =
     record { given = file 3 2; page = 0x10 ∷ 0x88 ∷ 20 ∷ [] }
     ∷ record { given = back 3 2; page = 0 ∷ 3 ∷ 2 ∷ [] }

@@ -1,3 +1,4 @@
 pub mod Numbers
 pub mod Rings
 pub mod Outcomes
+pub mod RoundTrip

@@ -2,3 +2,4 @@ pub mod Lines
 pub mod Script
 pub mod Session
 pub mod Reading
+pub mod InParts

@@ -7,7 +7,7 @@ use lib.ListN.{length, getD, drop, set, replicate}
 use Rattle.codec.specs.Order.{firstOf}
 use Rattle.parts.specs.Choose.{pick, allOf, every}
 use Rattle.parts.specs.declared.request.Request.{Request}
-use Rattle.bench.specs.Text.{space, lineFeed}
+use Rattle.bench.specs.Text.{space, lineFeed, text}
 use Rattle.script.specs.declared.lines.Numbers.{Numbers}
 use Rattle.script.specs.declared.lines.Line.{Line}
 use Rattle.script.specs.declared.lines.Line.the-variants.{Ring, Queue, Step, Bad}
@@ -47,17 +47,14 @@ same [] (d ∷ w) = false
 same (c ∷ v) [] = false
 same (c ∷ v) (d ∷ w) = pick (eqb c d) (same v w) false
 
--- ring
 abbrev pub ringWord : List ℕ
-ringWord = 114 ∷ 105 ∷ 110 ∷ 103 ∷ []
+ringWord = text "ring"
 
--- queue
 abbrev pub queueWord : List ℕ
-queueWord = 113 ∷ 117 ∷ 101 ∷ 117 ∷ 101 ∷ []
+queueWord = text "queue"
 
--- step
 abbrev pub stepWord : List ℕ
-stepWord = 115 ∷ 116 ∷ 101 ∷ 112 ∷ []
+stepWord = text "step"
 
 abbrev pub wordAt : List (List ℕ) → ℕ → List ℕ
 wordAt ws i = getD ws i []

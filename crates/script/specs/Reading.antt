@@ -1,9 +1,10 @@
 -- Reading a script octet by octet: of a line its first 40 octets are kept, and each line is obeyed as its line feed comes.
+use mathlib.Core.Path.{_≡_}
 use mathlib.Core.Bool.{true, false}
 use mathlib.Core.List.{List, [], _∷_, _++_}
 use Prim.Native.Nat.{ℕ, _+_}
 use lib.Dec.{ltb, eqb}
-use lib.ListN.{take, set, replicate}
+use lib.ListN.{length, take, set, replicate}
 use Rattle.parts.specs.Choose.{pick}
 use Rattle.bench.specs.Text.{lineFeed}
 use Rattle.script.specs.Lines.{lineOf}
@@ -23,6 +24,12 @@ keptOf h = take (h .len) (h .octets)
 -- one octet more, where there is room
 unfoldable pub keepOne : Held → ℕ → Held
 keepOne h c = pick (ltb (h .len) 40) (record { octets = set (h .octets) (h .len) c; len = h .len + 1 }) h
+
+-- of the octets x of a line the first 40 are kept
+pub record Keeps (h : Held) (x : List ℕ) : Type 0 where
+  pub long : length (h .octets) ≡ 40
+  pub many : h .len ≡ length (take 40 x)
+  pub kept : keptOf h ≡ take 40 x
 
 -- the octets from a place on, as far as the next line feed
 unfoldable pub fedFrom : Held → List ℕ → ℕ → Fed

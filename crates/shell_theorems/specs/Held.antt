@@ -1,4 +1,7 @@
 -- A record in a driver's hands, and what is known of it.
+use Rattle.station.specs.declared.station.Answer.{Answer}
+use Rattle.record_theorems.specs.RoundTrip.{ReadsAs}
+use Rattle.codec.specs.Ring.{readRing, limit}
 use mathlib.Core.Path.{_≡_}
 use mathlib.Core.Bool.{true}
 use mathlib.Core.List.{List}
@@ -8,7 +11,7 @@ use Rattle.parts.specs.declared.request.Request.{Request}
 use Rattle.station_theorems.specs.Shaped.{WholeStation}
 use Rattle.station_theorems.specs.Small.{Small}
 use Rattle.records.specs.Record.{readRecord}
-use Rattle.shell.specs.Calls.{stationIn, Making, Starting, Hearing, Timing, Queueing, Taking}
+use Rattle.shell.specs.Calls.{stationIn, Making, Starting, Hearing, Timing, Queueing, Taking, madeFrom}
 
 -- made, and then changed by calls alone, whatever number they give
 pub data Held : List ℕ → Type 0 where
@@ -27,3 +30,14 @@ pub record Sure (rec : List ℕ) : Type 0 where
   pub ok : readRecord rec .ok ≡ true
   pub whole : WholeStation (stationIn rec)
   pub small : Small (readRecord rec .ring .n) (readRecord rec .ring .limit) (stationIn rec)
+
+-- a record that is made reads as the file's ring and the made station, which is whole
+pub record Made (file : List ℕ) (own : ℕ) (rec : List ℕ) : Type 0 where
+  pub reads : ReadsAs rec (readRing file .ring) (madeFrom file own)
+  pub good-file : readRing file .number ≡ 0
+  pub whole : WholeStation (madeFrom file own)
+  pub small : Small (readRing file .ring .n) (readRing file .ring .limit) (madeFrom file own)
+
+-- what a call's answer keeps
+abbrev pub Keeps : List ℕ → Answer → Type 0
+Keeps rec a = WholeStation (a .station) × Small (readRecord rec .ring .n) (readRecord rec .ring .limit) (a .station)

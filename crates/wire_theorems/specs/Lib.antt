@@ -1,2 +1,4 @@
 pub mod Wire
 pub mod Store
+pub mod Carried
+pub mod Taken

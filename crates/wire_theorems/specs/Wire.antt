@@ -1,7 +1,14 @@
 -- A frame on the wire: the octets of its packet, what every other member has of it, and the ring file that a record was made of.
+use Rattle.station_theorems.specs.GoodList.{GoodList}
+use Rattle.station_theorems.specs.Awaited.{Proper}
+use Rattle.station_theorems.specs.Small.{SmallFrame}
+use Rattle.wholeness.specs.Whole.{apart}
+use Rattle.station.specs.declared.station.Station.{Station}
+use Rattle.parts.specs.Messages.{all}
+use mathlib.Core.Bool.{true}
 use Prim.Native.Nat.{ℕ, _^_, _<_}
 use mathlib.Core.Path.{_≡_}
-use mathlib.Core.List.{List}
+use mathlib.Core.List.{List, []}
 use lib.ListN.{length, take, getD}
 use Rattle.codec.specs.Octets.{Octets}
 use Rattle.codec.specs.Ring.{position}
@@ -64,3 +71,11 @@ madeOf (by-frame rec store from to packet out told r rec′ store′ out′ told
 madeOf (by-timer rec store out told r rec′ out′ told′ p m) = madeOf p
 madeOf (by-queue rec store q payload r rec′ store′ p m) = madeOf p
 madeOf (by-take rec store channel room told r rec′ room′ told′ p m) = madeOf p
+
+-- a frame that a whole station awaits: proper, of small numbers, with its message in a good list
+pub record Outgoing (ring : List ℕ) (s : Station) (f : Frame) (to : ℕ) : Type 0 where
+  pub members : length ring ≡ s .n
+  pub proper : Proper (s .n) (s .own) (s .sends) f to
+  pub list : GoodList (s .n) (s .own) (s .sends)
+  pub places : apart [] (all (s .sends)) ≡ true
+  pub small : SmallFrame f

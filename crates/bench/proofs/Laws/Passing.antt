@@ -19,10 +19,11 @@ use Rattle.parts.specs.declared.frame.Dispatch.{Dispatch}
 use Rattle.parts.specs.declared.frame.Dispatch.the-variants.{Nothing}
 use Rattle.station.specs.declared.station.Station.{Station}
 use Rattle.station.specs.declared.station.Answer.{Answer}
+use Rattle.bench.specs.Bystander.{Untouched}
 use Rattle.parts.proofs.Laws.Choose.{pick-true, pick-false}
 use Rattle.bench.specs.Ring.{nobody}
 use Rattle.bench.specs.Delivery.{handed, delivered, replyTo}
-use Rattle.bench.proofs.Laws.StandsBy.{Untouched, either}
+use Rattle.bench.proofs.Laws.StandsBy.{either}
 use Rattle.bench.proofs.Laws.Delivered.{delivered-length, delivered-at, handed-outside}
 
 -- what lies past the table answers nothing

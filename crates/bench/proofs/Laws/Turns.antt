@@ -12,10 +12,11 @@ use Rattle.parts.specs.declared.frame.Frame.{Frame}
 use Rattle.parts.specs.declared.frame.Dispatch.{Dispatch}
 use Rattle.station.specs.declared.station.Station.{Station}
 use Rattle.station.specs.declared.station.Answer.{Answer}
+use Rattle.bench.specs.Bystander.{Untouched}
 use Rattle.parts.proofs.Laws.Choose.{pick-true, pick-false}
 use Rattle.bench.specs.Ring.{nobody}
 use Rattle.bench.specs.Delivery.{isQuiet, standsBy, handed, replyTo}
-use Rattle.bench.proofs.Laws.StandsBy.{Untouched, either, answered-untouched}
+use Rattle.bench.proofs.Laws.StandsBy.{either, answered-untouched}
 use Rattle.bench.proofs.Laws.Delivered.{handed-hears, handed-not}
 use Rattle.bench.proofs.Laws.Passing.{seats-members, Passed, passed-by, passed-on}
 use Rattle.bench.proofs.Theorems.Bystander.{bystander}

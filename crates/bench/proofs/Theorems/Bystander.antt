@@ -6,9 +6,10 @@ use Prim.Native.Nat.{ℕ}
 use Rattle.station.specs.Heard.{frameRule}
 use Rattle.parts.specs.declared.frame.Frame.{Frame}
 use Rattle.station.specs.declared.station.Station.{Station}
+use Rattle.bench.specs.Bystander.{Untouched}
 use Rattle.parts.proofs.Laws.Choose.{pick-and}
 use Rattle.bench.specs.Delivery.{isQuiet, standsBy}
-use Rattle.bench.proofs.Laws.StandsBy.{Untouched, not-first, untouched}
+use Rattle.bench.proofs.Laws.StandsBy.{not-first, untouched}
 
 pub bystander : (s : Station) (f : Frame) (from to : ℕ) → standsBy (isQuiet f) to s ≡ true → Untouched s (frameRule s f from to)
 bystander s f from to e =

@@ -18,14 +18,11 @@ use Rattle.packet_codec.specs.declared.fields.Looked.the-variants.{Sound
 use Rattle.packet_codec.specs.declared.reading.Read.{Read}
 use Rattle.packet_codec.specs.declared.reading.Read.the-variants.{Refused, Good}
 use Rattle.packet_codec.specs.Packet.{shortOf, headOf, packetOf, packetOctets, shortOctets, headOctets, informationOctets, informationIn, informationPart, informationLength, identifier, padFrom, lengthFrom, size, belongs, failingBad, fieldTests, padTests, lengthTests, restTests, writeTests, readTests, Fit, readPacket, isBad}
+use Rattle.packet_codec.specs.Typed.{Typed, TypedPacket}
+use Rattle.packet_codec.specs.RoundTrip.{ReadsAs}
 use Rattle.codec.proofs.Laws.Octets.{back, length-zeros}
 use Rattle.codec.proofs.Laws.Order.{NoneHolds, none-holds, none-append, none-split, first-passed}
 use Rattle.packet_codec.proofs.Laws.Packet.{write-apart, pads-none, fit-length}
-
--- a packet's numbers are of their fields' types, as every packet that the code holds
-pub record Typed (priority number : ℕ) : Type 0 where
-  pub priority-fits : priority < 256
-  pub number-fits : number < 65536
 
 -- an address that belongs has 48 bits
 belongs-fits : (ring : List ℕ) (a : ℕ) → belongs ring a ≡ true → a < 2 ^ 48
@@ -173,16 +170,6 @@ module _ (ring : List ℕ) (h : Head) (info : List ℕ) (t : Typed (h .priority)
       rw (le-leb _ _ room) (take-at info (zeros (46 - (8 + length info))) (h .length) long)
 
 -- ---- the theorem
-
-abbrev pub TypedPacket : Packet → Type 0
-TypedPacket (Token p) = Typed (p .priority) (p .number)
-TypedPacket (Transmit p) = Typed (p .priority) (p .number)
-TypedPacket (Information h) = Typed (h .priority) (h .number)
-
--- octets that read as the packet, with its information in its place
-pub record ReadsAs (ring : List ℕ) (p : Packet) (info s : List ℕ) : Type 0 where
-  pub packet : readPacket ring s ≡ Good p
-  pub part : informationPart p s ≡ info
 
 pub read-after-write : (ring : List ℕ) (p : Packet) (info : List ℕ) → TypedPacket p → Fit ring p info → ReadsAs ring p info (packetOctets p info)
 unfolding packetOctets informationIn

@@ -18,10 +18,11 @@ use Rattle.packet_codec.specs.declared.fields.Looked.the-variants.{Sound
 use Rattle.packet_codec.specs.declared.reading.Read.{Read}
 use Rattle.packet_codec.specs.declared.reading.Read.the-variants.{Refused, Good}
 use Rattle.packet_codec.specs.Packet.{identifier, shortOf, headOf, packetOf, shortOctets, headOctets, informationOctets, packetOctets, informationIn, informationPart, informationLength, padFrom, lengthFrom, size, fieldTests, padTests, lengthTests, restTests, readTests, writeTests, Fit, isBad, readPacket}
+use Rattle.packet_codec.specs.RoundTrip.{WritesAs}
+use Rattle.packet_codec.specs.Typed.{Typed}
 use Rattle.codec.proofs.Laws.Octets.{field-then, octets-take, octets-drop, number-below, length-part}
 use Rattle.codec.proofs.Laws.Order.{NoneHolds, none-gives, none-holds, none-append, none-split, first-passed}
 use Rattle.packet_codec.proofs.Laws.Packet.{sound-of, read-apart, pad-is}
-use Rattle.packet_codec.proofs.Theorems.ReadWrite.{Typed, TypedPacket}
 
 -- ---- what reading says
 
@@ -117,12 +118,6 @@ module _ (s : List ℕ) (o : Octets s) (long : length s ≡ max 46 (8 + numberAt
   part-is = let room : 8 + n ≤ length s = omega arith in rw (le-leb _ _ room)
 
 -- ---- the theorem
-
--- octets that are those of the packet with the information at its place, and a packet that is fit to write
-pub record WritesAs (ring s : List ℕ) (p : Packet) : Type 0 where
-  pub again : s ≡ packetOctets p (informationPart p s)
-  pub fit : Fit ring p (informationPart p s)
-  pub typed : TypedPacket p
 
 -- the fields' tests and the length's, of information of the right length
 fit-of : (ring : List ℕ) (p : Packet) (part : List ℕ) → NoneHolds (fieldTests ring p) → length part ≡ informationLength p → Fit ring p part

@@ -18,7 +18,7 @@ use Rattle.packet_codec.specs.declared.packet.Packet.the-variants.{Token, Trans
 use Rattle.packet_codec.specs.declared.fields.Looked.the-variants.{Sound}
 use Rattle.packet_codec.specs.Packet.{size, informationLength, headOctets, packetOctets, writeTests, Fit}
 use Rattle.packet_codec.proofs.Laws.Packet.{write-apart, fit-length}
-use Rattle.packet_codec.proofs.Theorems.ReadWrite.{Typed, TypedPacket}
+use Rattle.packet_codec.specs.Typed.{Typed, TypedPacket}
 use Rattle.rtep.specs.declared.Made.{Made}
 use Rattle.rtep.specs.declared.Made.the-variants.{Nothing, Packet as Of}
 use Rattle.rtep.specs.Told.{valuesOf, shortTests, shortMade, headTests, headMade, startTests, madeOf}

@@ -21,6 +21,7 @@ use Rattle.rtep.specs.declared.Made.the-variants.{Nothing, Packet as Of}
 use Rattle.rtep.specs.Told.{readTold, ReadTold, madeOf, madeRefusal, WriteTold}
 use Rattle.rtep_theorems.specs.Numbers.{written, informationOf}
 use Rattle.rtep_theorems.proofs.Laws.Values.{Numbered, numbered, length-told, length-packet}
+use Rattle.rtep_theorems.specs.RoundTrip.{ReadBack}
 
 -- ---- what a write that gives 0 says
 
@@ -40,11 +41,6 @@ write-fit ring p info out told out′ told′ w =
     sound-of _ (n .1 .0)
 
 -- ---- the theorem
-
-pub record ReadBack (values information packet : List ℕ) (r : ℕ) (told′ : List ℕ) : Type 0 where
-  pub answer : r ≡ 0
-  pub numbers : told′ ≡ values
-  pub information-is : informationOf packet values ≡ information
 
 pub read-after-write : (ring values information out sizes out′ sizes′ : List ℕ) → length values ≡ 8
     → WriteTold ring (madeOf values) information out sizes 0 out′ sizes′

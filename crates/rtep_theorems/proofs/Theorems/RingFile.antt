@@ -16,6 +16,7 @@ use Rattle.rtep_theorems.specs.Numbers.{limitTold, membersTold}
 use Rattle.rtep_theorems.specs.Rings.{GoodRing, ringWith, fileWith}
 use Rattle.rtep_theorems.proofs.Laws.Files.{file-reads}
 use Rattle.rtep_theorems.proofs.Laws.Members.{read-ring-good}
+use Rattle.rtep_theorems.specs.RoundTrip.{RingBack, FileBack}
 
 -- what is told of a ring of these members
 told-with : (told : List ℕ) (r : ℕ) (ms : List ℕ) → toldRing told (ringWith r ms) ≡ laid told 0 (length ms ∷ r ∷ ms)
@@ -23,10 +24,6 @@ unfolding toldRing
 told-with told r ms = ap (λ (l : List ℕ). laid told 0 (length ms ∷ r ∷ l)) (members-filled ms (length ms) refl)
 
 -- ---- reading after writing
-
-pub record RingBack (limit : ℕ) (members told : List ℕ) (r : ℕ) (told′ : List ℕ) : Type 0 where
-  pub answer : r ≡ 0
-  pub numbers : told′ ≡ laid told 0 (length members ∷ limit ∷ members)
 
 pub ring-after-write : (limit : ℕ) (members : List ℕ) → GoodRing limit members
     → (told : List ℕ) (r : ℕ) (told′ : List ℕ) → RingTold (fileWith limit members) told r told′ → RingBack limit members told r told′
@@ -43,10 +40,6 @@ ring-after-write limit members g told r told′ t =
     }
 
 -- ---- writing after reading
-
-pub record FileBack (file told′ : List ℕ) : Type 0 where
-  pub good : GoodRing (limitTold told′) (membersTold told′)
-  pub again : file ≡ fileWith (limitTold told′) (membersTold told′)
 
 pub write-after-ring : (file told told′ : List ℕ) → Octets file → RingTold file told 0 told′ → FileBack file told′
 unfolding ring.ringOf

@@ -22,6 +22,7 @@ use Rattle.rtep.specs.declared.Made.the-variants.{Packet as Of}
 use Rattle.rtep.specs.Told.{valuesOf, readTold, ReadTold, madeOf, madeRefusal, WriteTold}
 use Rattle.rtep_theorems.specs.Numbers.{written, informationOf}
 use Rattle.rtep_theorems.proofs.Laws.Values.{made-again, length-told, length-packet}
+use Rattle.rtep_theorems.specs.RoundTrip.{WriteBack}
 
 -- a packet that is fit is not refused
 not-refused : (ring : List ℕ) (p : Packet) (info : List ℕ) (room : ℕ) → Fit ring p info → longestPacket ≤ room → madeRefusal ring (Of p) (length info) room ≡ 0
@@ -30,11 +31,6 @@ not-refused ring p info room fit h =
     first-passed 0 ((ltb room 1500, 9) ∷ (isBad (firstOf Sound (writeTests ring p (length info))), 12) ∷ []) (le-ltb _ _ h, (ap isBad fit, tt))
 
 -- ---- the theorem
-
-pub record WriteBack (packet out : List ℕ) (r : ℕ) (out′ sizes′ : List ℕ) : Type 0 where
-  pub answer : r ≡ 0
-  pub octets : out′ ≡ laid out 0 packet
-  pub written-is : written out′ sizes′ ≡ packet
 
 pub write-after-read : (ring packet told told′ : List ℕ) → Octets packet → ReadTold ring packet told 0 told′
     → (out sizes : List ℕ) (r : ℕ) (out′ sizes′ : List ℕ) → longestPacket ≤ length out

@@ -7,6 +7,7 @@ use Prim.Native.Nat.{ℕ, _+_, _-_, _<_, _≤_}
 use native.Mathlib.Omega.{arith}
 use borrow.Author.Tests.{le-leb}
 use Rattle.parts.specs.Choose.{pick}
+use Rattle.script.specs.InParts.{InParts}
 use Rattle.parts.proofs.Laws.Choose.{pick-true, pick-false}
 use Rattle.bench.specs.Delivery.{steps}
 use Rattle.bench.specs.Runs.{frames, stepping}
@@ -32,14 +33,6 @@ text-parts : (k j : ℕ) (b : Bench) → stepped b k ++ stepped (steps k b) j �
 text-parts k j b = sym (text-append (frames b (stepping k)) (frames (steps k b) (stepping j))) ∙ ap rowsText (sym (frames-add k j b))
 
 -- ---- a line in two parts
-
-pub record InParts (s : Session) (l : Line) (room : ℕ) : Type 0 where
-  -- with no steps left the line is done
-  pub whole : leftOf (s .begun) l room ≡ 0 → (does s (cut l room) ≡ does s l) × (prints s (cut l room) ≡ prints s l)
-  -- else those that are left do the rest
-  pub rest : 0 < leftOf (s .begun) l room
-      → (does (does s (cut l room)) (Step (leftOf (s .begun) l room)) ≡ does s l)
-      × (prints s (cut l room) ++ prints (does s (cut l room)) (Step (leftOf (s .begun) l room)) ≡ prints s l)
 
 module _ (s : Session) (room : ℕ) where
   -- lines other than `step` are done at once

@@ -13,7 +13,7 @@ use Rattle.parts.proofs.Laws.Choose.{pick-true, pick-false}
 use Rattle.bench.specs.Text.{lineFeed}
 use Rattle.script.specs.Lines.{lineOf, opening, linesOf}
 use Rattle.script.specs.Script.{unbegun, does, prints, printed, output}
-use Rattle.script.specs.Reading.{noHeld, keptOf, keepOne, told}
+use Rattle.script.specs.Reading.{noHeld, keptOf, keepOne, told, Keeps}
 use Rattle.script.specs.declared.reading.Held.{Held}
 use Rattle.script.specs.declared.session.Session.{Session}
 use Rattle.script.specs.declared.lines.Line.{Line}
@@ -21,12 +21,6 @@ use Rattle.script.proofs.Laws.Reading.{keep-room, keep-full}
 use Rattle.script.proofs.Theorems.LongLines.{long-lines}
 
 -- ---- what is kept of a line
-
--- of the octets x of a line the first 40 are kept
-pub record Keeps (h : Held) (x : List ℕ) : Type 0 where
-  pub long : length (h .octets) ≡ 40
-  pub many : h .len ≡ length (take 40 x)
-  pub kept : keptOf h ≡ take 40 x
 
 none-kept : Keeps noHeld []
 none-kept = record { long = refl; many = refl; kept = refl }

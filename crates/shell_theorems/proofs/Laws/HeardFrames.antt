@@ -14,9 +14,9 @@ use Rattle.packet_codec.specs.declared.packet.Packet.{Packet}
 use Rattle.packet_codec.specs.declared.packet.Packet.the-variants.{Token as TokenOf, Transmit as TransmitOf, Information as InformationOf}
 use Rattle.packet_codec.specs.declared.fields.Looked.the-variants.{Sound}
 use Rattle.packet_codec.specs.declared.reading.Read.the-variants.{Good}
+use Rattle.packet_codec.specs.Typed.{TypedPacket}
 use Rattle.codec.proofs.Laws.Order.{NoneHolds, none-holds, none-split}
 use Rattle.packet_codec.proofs.Laws.Packet.{write-apart}
-use Rattle.packet_codec.proofs.Theorems.ReadWrite.{TypedPacket}
 use Rattle.packet_codec.proofs.Theorems.WriteRead.{write-after-read}
 use Rattle.parts.specs.Choose.{pick}
 use Rattle.parts.specs.Frames.{fit, memberOrNobody}

@@ -38,7 +38,7 @@ use Rattle.record_theorems.proofs.Theorems.Anew.{read-anew}
 use Rattle.parts.specs.declared.request.Request.{Request}
 use Rattle.shell.specs.Packets.{frameOf}
 use Rattle.shell.specs.Calls.{membersOf, ringIn, stationIn, recordWith, madeFrom, Making, Starting, Hearing, Timing, Queueing, Taking, startAnswer, timerAnswer, frameAnswer, queueAnswer, takeAnswer, heardThen, packetRule}
-use Rattle.shell_theorems.specs.Held.{Held, Sure, by-make, by-start, by-frame, by-timer, by-queue, by-take}
+use Rattle.shell_theorems.specs.Held.{Held, Sure, by-make, by-start, by-frame, by-timer, by-queue, by-take, Made, Keeps}
 use Rattle.shell_theorems.proofs.Laws.WholeTyped.{whole-typed}
 use Rattle.shell_theorems.proofs.Laws.HeardFrames.{heard-fit}
 use Rattle.shell_theorems.proofs.Laws.MadeRecords.{good-making, laid-whole, length-record, members-count}
@@ -76,13 +76,6 @@ after-call rec rec′ r s h e w k = subst Sure (sym e) (go (eqb r 0))
 
 -- ---- the calls
 
--- a record that is made reads as the file's ring and the made station, which is whole
-pub record Made (file : List ℕ) (own : ℕ) (rec : List ℕ) : Type 0 where
-  pub reads : ReadsAs rec (readRing file .ring) (madeFrom file own)
-  pub good-file : readRing file .number ≡ 0
-  pub whole : WholeStation (madeFrom file own)
-  pub small : Small (readRing file .ring .n) (readRing file .ring .limit) (madeFrom file own)
-
 pub made-reads : (rec file : List ℕ) (own : ℕ) (rec′ : List ℕ) → Making rec file own 0 rec′ → Made file own rec′
 made-reads rec file own rec′ m =
     let g = good-making rec file own (sym (m .answer)) in
@@ -99,10 +92,6 @@ made-sure : (rec file : List ℕ) (own : ℕ) (rec′ : List ℕ) → Making rec
 made-sure rec file own rec′ m =
     let d = made-reads rec file own rec′ m in
     sure-of rec′ (readRing file .ring) (madeFrom file own) (d .reads) (d .whole) (d .small)
-
--- what a call's answer keeps
-abbrev pub Keeps : List ℕ → Answer → Type 0
-Keeps rec a = WholeStation (a .station) × Small (readRecord rec .ring .n) (readRecord rec .ring .limit) (a .station)
 
 -- a heard packet is refused, or its frame is fit and of small numbers
 read-sure : (rec : List ℕ) → Sure rec → (from to : ℕ) (packet : List ℕ) → Octets packet → (d : Read) → readPacket (ringIn rec) packet ≡ d

@@ -15,7 +15,7 @@ use Rattle.packet_codec.specs.declared.packet.Head.{Head}
 use Rattle.packet_codec.specs.declared.packet.Packet.{Packet}
 use Rattle.packet_codec.specs.declared.packet.Packet.the-variants.{Token as TokenOf, Transmit as TransmitOf, Information as InformationOf}
 use Rattle.packet_codec.specs.declared.fields.Looked.the-variants.{Sound}
-use Rattle.packet_codec.proofs.Theorems.ReadWrite.{TypedPacket}
+use Rattle.packet_codec.specs.Typed.{TypedPacket}
 use Rattle.parts.specs.Choose.{pick}
 use Rattle.parts.specs.declared.frame.Whom.{Whom}
 use Rattle.parts.specs.declared.frame.Whom.the-variants.{Nobody, Member}

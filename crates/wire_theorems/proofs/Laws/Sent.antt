@@ -36,8 +36,9 @@ use Rattle.station_theorems.proofs.Theorems.Whole.{whole-is}
 use Rattle.shell.specs.Packets.{frameOf}
 use Rattle.shell.specs.Calls.{ringIn, heardThen, packetRule}
 use Rattle.shell_theorems.proofs.Laws.MadeRecords.{members-count}
-use Rattle.shell_theorems.proofs.Theorems.Held.{Keeps}
+use Rattle.shell_theorems.specs.Held.{Keeps}
 use Rattle.shell_theorems.specs.Held.{Sure}
+use Rattle.wire_theorems.specs.Wire.{Outgoing}
 
 -- ---- each frame that an answer sends has a property
 
@@ -95,14 +96,6 @@ start-sends-token s =
     (λ f to e. absurd (not-sent e))
 
 -- ---- of a held record's station
-
--- a frame that a whole station awaits: proper, of small numbers, with its message in a good list
-pub record Outgoing (ring : List ℕ) (s : Station) (f : Frame) (to : ℕ) : Type 0 where
-  pub members : length ring ≡ s .n
-  pub proper : Proper (s .n) (s .own) (s .sends) f to
-  pub list : GoodList (s .n) (s .own) (s .sends)
-  pub places : apart [] (all (s .sends)) ≡ true
-  pub small : SmallFrame f
 
 pub outgoing : (rec : List ℕ) → Sure rec → (a : Answer) → Keeps rec a → (f : Frame) (to : ℕ) → awaitedOf (a .station) ≡ Sent f to
     → Outgoing (ringIn rec) (a .station) f to

@@ -20,7 +20,7 @@ use Rattle.shell.specs.Places.{fitsPlace, inPlace, carriedIn}
 use Rattle.shell.specs.Packets.{packetOf}
 use Rattle.shell.specs.Calls.{callNumber, badBuffers}
 use Rattle.shell.proofs.Laws.Calls.{good-buffers}
-use Rattle.wire_theorems.proofs.Laws.Sent.{Outgoing}
+use Rattle.wire_theorems.specs.Wire.{Outgoing}
 
 pub place-fits : (store place n : ℕ) → store ≡ storeLength → place < 32 → n ≤ placeLength → fitsPlace store place n ≡ true
 unfolding fitsPlace

@@ -32,18 +32,9 @@ use Rattle.wire_theorems.proofs.Laws.Laid.{put-there}
 use Rattle.wire_theorems.proofs.Laws.Heard.{heard-sized}
 use Rattle.wire_theorems.proofs.Laws.Joined.{packet-hears, take-takes}
 use Rattle.wire_theorems.proofs.Theorems.PayloadsStay.{while-held, received-stays}
+use Rattle.wire_theorems.specs.Taken.{Stored, HandedBack, TakenBack}
 
 -- ---- a heard frame
-
--- the message that was stored stands in the receive list, with the packet's information in its place, which fits
-pub record Stored (rec rec′ store store′ packet : List ℕ) (m : Message) : Type 0 where
-  pub packet-read : Packet
-  pub reads : readPacket (ringIn rec) packet ≡ Good packet-read
-  pub is-part : informationIn packet (m .length) ≡ informationPart packet-read packet
-  pub long : length (informationIn packet (m .length)) ≡ m .length
-  pub place-fits : fitsPlace (length store) (receivePlaces + m .place) (length (informationPart packet-read packet)) ≡ true
-  pub stands : Received m rec′
-  pub holds : receivedPayload store′ m ≡ informationPart packet-read packet
 
 pub frame-puts : {rec : List ℕ} → Held rec → (store : List ℕ) (from to : ℕ) (packet out told rec′ store′ out′ told′ : List ℕ) → Octets packet
     → Hearing rec store from to packet out told 0 rec′ store′ out′ told′ → (m : Message) → frameAnswer rec from to packet .payload ≡ Of m
@@ -81,13 +72,6 @@ frame-puts {rec} p store from to packet out told rec′ store′ out′ told′ 
 
 -- ---- take
 
--- the payload fits its place and the room, and fills the room's start
-pub record HandedBack (ring store room : List ℕ) (m : Message) (room′ told′ : List ℕ) : Type 0 where
-  pub place-fits : fitsPlace (length store) (receivePlaces + m .place) (m .length) ≡ true
-  pub room-fits : m .length ≤ length room
-  pub room-is : room′ ≡ laid room 0 (receivedPayload store m)
-  pub told-is : told′ ≡ takenTold ring (Of m)
-
 pub take-hands-back : {rec : List ℕ} → Held rec → (store : List ℕ) (channel : ℕ) (room told rec′ room′ told′ : List ℕ)
     → Taking rec store channel room told 0 rec′ room′ told′ → (m : Message) → takeAnswer rec channel room .payload ≡ Of m
     → HandedBack (ringIn rec) store room m room′ told′
@@ -112,13 +96,6 @@ take-hands-back {rec} p store channel room told rec′ room′ told′ n m moves
     }
 
 -- ---- the theorem: from the heard frame, over any calls while the message stands, to its taking
-
--- the packet's information, of the message's length, fills the start of the room, and the message is told
-pub record TakenBack (ring packet room : List ℕ) (m : Message) (room′ told′ : List ℕ) : Type 0 where
-  pub long : length (informationIn packet (m .length)) ≡ m .length
-  pub room-fits : m .length ≤ length room
-  pub room-is : room′ ≡ laid room 0 (informationIn packet (m .length))
-  pub told-is : told′ ≡ takenTold ring (Of m)
 
 pub heard-taken : {rec : List ℕ} → Held rec → (store : List ℕ) (from to : ℕ) (packet out told rec₁ store₁ out′ told′ : List ℕ) → Octets packet
     → Hearing rec store from to packet out told 0 rec₁ store₁ out′ told′ → (m : Message) → frameAnswer rec from to packet .payload ≡ Of m

@@ -44,6 +44,7 @@ use Rattle.wire_theorems.proofs.Laws.Laid.{put-there}
 use Rattle.wire_theorems.proofs.Laws.Joined.{queue-joins}
 use Rattle.wire_theorems.proofs.Theorems.Conveyed.{sends-conveyed, sends-from-store, sends-outgoing}
 use Rattle.wire_theorems.proofs.Theorems.PayloadsStay.{to-send-stays}
+use Rattle.wire_theorems.specs.Carried.{Queued, CarriesMessage, OfMessage, CarriesQueued}
 
 -- ---- queue
 
@@ -64,13 +65,6 @@ zero-puts s q =
     pick-keeps (ZeroPuts s q) _ _ _
     (pick-either (ZeroPuts s q) (eqb (queueNumber s q) 0) (accepted s q) (answered s (queueNumber s q)) (λ t z. refl) (λ t z. absurd (eqb-false _ _ t z)))
     (λ z. absurd (queue-runs (stateOf s) z))
-
--- the message of an accepted request stands in the send list, with the payload in its place, which fits
-pub record Queued (rec′ store store′ : List ℕ) (q : Request) (payload : List ℕ) (m : Message) : Type 0 where
-  pub asked : m ≡ messageFor q (m .place)
-  pub place-fits : fitsPlace (length store) (m .place) (length payload) ≡ true
-  pub stands : ToSend m rec′
-  pub holds : sendPayload store′ m ≡ payload
 
 pub queue-puts : {rec : List ℕ} → Held rec → (store : List ℕ) (q : Request) (payload rec′ store′ : List ℕ) → q .length ≡ length payload
     → Queueing rec store q payload 0 rec′ store′ → Queued rec′ store store′ q payload (newMessage (stationIn rec) q)
@@ -109,15 +103,6 @@ same-place l a m c h k e =
     let y : bestOf (HasPlace (c .place)) (all l) noBest ≡ theBest c = best-found (all l) (v .0) (v .1) c a (v .2) in
     ap (λ (b : Best). b .message) (sym y ∙ ap (λ (n : ℕ). bestOf (HasPlace n) (all l) noBest) e ∙ x)
 
--- an information frame is that of the message with its place: its fields are the message's, and it carries the message's payload
-pub record CarriesMessage (store : List ℕ) (i : InformationFrame) (to : ℕ) (m : Message) : Type 0 where
-  pub to-other : to ≡ m .other
-  pub same-priority : i .priority ≡ m .priority
-  pub same-channel : i .channel ≡ m .channel
-  pub same-length : i .length ≡ m .length
-  pub place-fits : fitsPlace (length store) (i .place) (i .length) ≡ true
-  pub payload : carriedIn store (Information i) ≡ sendPayload store m
-
 pub carries-message : {rec store : List ℕ} {i : InformationFrame} {to : ℕ} {rec′ out′ told′ : List ℕ} → Held rec
     → Sends rec store (Information i) to rec′ out′ told′ → (m : Message) → ToSend m rec′ → m .place ≡ i .place → CarriesMessage store i to m
 unfolding carriedIn
@@ -136,12 +121,6 @@ carries-message {store = store} {i = i} {rec′ = rec′} p c m h e =
       payload = ap (λ (x : ℕ). inPlace store x (i .length)) (sym e) ∙ ap (inPlace store (m .place)) long;
     }
 
--- and each that is sent is that of a message of the send list
-pub record OfMessage (rec′ store : List ℕ) (i : InformationFrame) (to : ℕ) : Type 0 where
-  pub message : Message
-  pub stands : ToSend message rec′
-  pub is-its : CarriesMessage store i to message
-
 pub sends-its-message : {rec store : List ℕ} {i : InformationFrame} {to : ℕ} {rec′ out′ told′ : List ℕ} → Held rec
     → Sends rec store (Information i) to rec′ out′ told′ → OfMessage rec′ store i to
 sends-its-message p c =
@@ -149,14 +128,6 @@ sends-its-message p c =
     record { message = k .message; stands = k .there; is-its = carries-message p c (k .message) (k .there) (k .same-place) }
 
 -- ---- the theorem: from the queue call, over any calls while the message stands, to a frame of it, first or again
-
--- the frame goes where the request says, with its priority and its channel, and whoever has this ring reads the payload in it
-pub record CarriesQueued (ring : List ℕ) (q : Request) (payload : List ℕ) (i : InformationFrame) (to : ℕ) (out′ told′ : List ℕ) : Type 0 where
-  pub to-asked : to ≡ q .to
-  pub priority-asked : i .priority ≡ q .priority
-  pub channel-asked : i .channel ≡ q .channel
-  pub length-is : i .length ≡ length payload
-  pub payload-read : informationPart (packetOf ring (Information i)) (take (getD told′ 0 0) out′) ≡ payload
 
 pub queued-carried : {rec : List ℕ} → Held rec → (store : List ℕ) (q : Request) (payload rec₁ store₁ rec₂ store₂ : List ℕ) → q .length ≡ length payload
     → Queueing rec store q payload 0 rec₁ store₁ → (m : Message) → m ≡ newMessage (stationIn rec) q → While (ToSend m) rec₁ store₁ rec₂ store₂
