@@ -1,12 +1,12 @@
-"""Two stations in one process, in Python over ctypes: examples/two_stations.py LIBRARY
-
-LIBRARY is the archive as a shared library:
+"""Two stations in one process, in Python over ctypes, with the archive as a shared library:
 
     gcc -shared -Wl,--whole-archive target/staticlib/librtep.a -Wl,--no-whole-archive -o librtep.so
+    python3 examples/two_stations.py librtep.so
 
 Nothing of the header is repeated here but the layout's number, the calls and the names of what they tell: sizes and places are
 asked for.
 """
+import os
 import sys
 from ctypes import CDLL, POINTER, Structure, byref, c_char_p, c_size_t, c_uint32, c_uint64, create_string_buffer, sizeof
 
@@ -41,7 +41,7 @@ CALLS = {
 
 def load(path):
     """The library, where it is of this layout."""
-    library = CDLL(path)
+    library = CDLL(os.path.abspath(path))
     if library.rtep_layout() != LAYOUT:
         sys.exit(f"two_stations: written for layout {LAYOUT}, and the library has {library.rtep_layout()}")
     for name in SIZES:

@@ -1,22 +1,76 @@
-// Runs the page's cases that are not in the proved set, and prints each with its answer: what was tried, then the number.
-mod handled;
-mod heard;
-mod lists;
-mod moves;
-mod packets;
-mod ready;
-mod rings;
-mod show;
-mod telling;
-mod timers;
+// Runs the page's cases that are not in the proved set: the calls of a script on station 0 of a ring of four, R = 1. A line that is a
+// call is printed with its answer, any other as it is.
+use libc::STDIN_FILENO;
+use libc::STDOUT_FILENO;
+use parts::frame::Whom;
+use script::reading::Held;
+use station::station::Answer;
+use station::station::Station;
+
+fn show(words: &[u8]) {
+    io::write_all(STDOUT_FILENO, words);
+}
+
+// The number, and who is newly struck.
+fn tell(a: Answer) -> Station {
+    show(b" -> ");
+    io::print_decimal(STDOUT_FILENO, a.number as u64);
+    let struck = a.struck;
+    match struck {
+        Whom::Nobody => {}
+        Whom::Member(p) => {
+            show(b", struck ");
+            io::print_decimal(STDOUT_FILENO, p as u64);
+        }
+    }
+    a.station
+}
+
+// `start` makes the station anew; `queue TO PRIORITY CHANNEL LENGTH` and `timer` go to the one that there is.
+fn obey(s: Station, line: &[u8]) -> Station {
+    let k = script::lines::word_length(line);
+    let word = &line[..k];
+    if script::lines::is_word(word, b"start") {
+        return tell(Station::new(4, 1, 0).start());
+    }
+    if script::lines::is_word(word, b"timer") {
+        return tell(s.timer());
+    }
+    if script::lines::is_word(word, b"queue") {
+        let n = script::lines::numbers_behind(line, k);
+        return tell(s.queue(n.values[0], n.values[1], n.values[2], n.values[3]));
+    }
+    s
+}
+
+// A line of the script, printed and obeyed.
+fn turn(s: Station, h: Held) -> Station {
+    let len = h.len;
+    let octets = h.octets;
+    if 40 < len {
+        return s;
+    }
+    let line = &octets[..len];
+    show(line);
+    let t = obey(s, line);
+    show(b"\n");
+    t
+}
+
+fn run(script: &[u8]) {
+    let mut s = Station::new(4, 1, 0);
+    let mut i: usize = 0;
+    while i < script.len() {
+        let f = script::reading::feed(Held::none(), script, i);
+        i = f.next;
+        s = turn(s, f.held);
+    }
+}
 
 fn main() {
-    rings::all();
-    packets::all_read();
-    packets::all_written();
-    moves::all();
-    heard::all();
-    handled::all();
-    timers::all();
-    lists::all();
+    let mut script = io::buffer();
+    let n = io::read_full(STDIN_FILENO, &mut script);
+    if n <= 4096 {
+        run(&script[..n]);
+    }
 }

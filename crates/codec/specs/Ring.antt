@@ -1,15 +1,13 @@
 -- The ring file, field by field, and its checks in their order.
 use Prim.Native.Nat.{ℕ, zero, suc, _+_, _-_, _*_, _/_, _%_, _^_}
-use mathlib.Core.Bool.{Bool, true, false, cond, not, _||_}
+use mathlib.Core.Bool.{Bool, cond, not, _||_}
 use mathlib.Core.List.{List, [], _∷_, _++_}
 use lib.Dec.{ltb, eqb}
-use lib.ListN.{length, take, drop, getD}
+use lib.ListN.{length, take}
 use Rattle.codec.specs.Order.{firstOf}
 use Rattle.codec.specs.Octets.{octets, zeros}
 use Rattle.codec.specs.Bits.{bits}
 use Rattle.codec.specs.declared.head.HeadBits.{HeadBits}
-use Rattle.codec.specs.declared.ring.Ring.{Ring}
-use Rattle.codec.specs.declared.ring.RingRead.{RingRead}
 
 -- ---- the fields: 4, 6, 4 and 2 bits, then N times 48
 
@@ -85,6 +83,17 @@ unfoldable pub ringRefusal : List ℕ → ℕ
 ringRefusal file = firstOf 0 (headTests file ++ addressesTests [] (addressesOf file (count file)))
 
 -- ---- reading
+
+-- how many members, the retry limit, the members' addresses in ring order and then zeros
+pub record Ring : Type 0 where
+  pub n : ℕ
+  pub limit : ℕ
+  pub addresses : List ℕ
+
+-- 0 and the ring, or the number of the refusal and no ring
+pub record RingRead : Type 0 where
+  pub number : ℕ
+  pub ring : Ring
 
 -- as the array that a ring keeps its addresses in: zeros after them
 abbrev pub filled : List ℕ → List ℕ

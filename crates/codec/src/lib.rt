@@ -4,3 +4,4 @@ pub mod head;
 pub mod octets;
 pub mod reader;
 pub mod ring;
+pub mod sizes;

@@ -3,6 +3,7 @@ ghost use mathlib.Core.Path.{_≡_};
 ghost use Prim.Native.Nat.{_+_, _-_, _≤_, _<_, _^_};
 ghost use lib.ListN.{length};
 ghost use Rattle.codec.specs.Octets.{octets, numberAt, laid, zeros, firstNonzero};
+use crate::sizes::INFORMATION;
 
 // Lays the low octets of a number, as many as the width says, over a buffer.
 pub fn put(out: &mut [u8], at: usize, width: usize, value: u64)
@@ -39,10 +40,10 @@ pub fn copy(out: &mut [u8], at: usize, src: &[u8])
     ensures { λ _. ⌜ now (out .exit) ≡ laid (now (out .entry)) at (now (src .entry)) ⌝ }
 {
     let n = src.len();
-    if 1492 < n {
+    if INFORMATION < n {
         copy_one_by_one(out, at, src);
     } else {
-        let mut block = [0u8; 1492];
+        let mut block = [0u8; INFORMATION];
         copy_one_by_one(&mut block, 0, src);
         copy_one_by_one(out, at, &block[..n]);
     }

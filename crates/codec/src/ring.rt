@@ -1,26 +1,12 @@
 // The ring file, and the good ring that it gives.
 ghost use mathlib.Core.Path.{_≡_};
 ghost use mathlib.Core.Bool.{true};
-ghost use mathlib.Core.List.{_++_};
-ghost use Prim.Native.Nat.{_+_, _*_, _≤_, _<_, _^_};
+ghost use Prim.Native.Nat.{_+_, _*_, _≤_, _<_};
 ghost use lib.ListN.{length, take, drop, getD};
 ghost use Rattle.codec.specs.Octets.{laid};
-ghost use Rattle.codec.specs.Ring.{badAddress, position, isMember, headRefusal, addressesOf, addressRefusal, addressesRefusal, count, ringRefusal, readRing, noRing};
+ghost use Rattle.codec.specs.Ring.{badAddress, position, isMember, headRefusal, addressesOf, addressRefusal, addressesRefusal, count, ringRefusal};
 use crate::head::head_of;
 use crate::reader::address_from;
-
-// A ring by value: how many members, the retry limit, the members' addresses in ring order and then zeros.
-pub struct Ring {
-    pub n: usize,
-    pub limit: u8,
-    pub addresses: [u64; 64],
-}
-
-// What reading a ring file gives: 0 and the ring, or the number of the refusal and no ring.
-pub struct RingRead {
-    pub number: u32,
-    pub ring: Ring,
-}
 
 // The addresses of a ring's members: the first of an array, as many as there are.
 pub fn members(addresses: &[u64], n: usize) -> &[u64]
@@ -169,39 +155,4 @@ pub fn read_into(file: &[u8], addresses: &mut [u64]) -> u32
     let n = (file.len() - 2) / 6;
     addresses_into(file, n, addresses);
     addresses_refusal(members(addresses, n))
-}
-
-pub fn no_ring(number: u32) -> RingRead
-    ensures { λ r. ⌜ r ≡ noRing number ⌝ }
-{
-    RingRead {
-        number,
-        ring: Ring {
-            n: 0,
-            limit: 0,
-            addresses: [0u64; 64],
-        },
-    }
-}
-
-// Reads a ring file: the checks, then the ring.
-pub fn read(file: &[u8]) -> RingRead
-    ensures { λ r. ⌜ r ≡ readRing (now (file .entry)) ⌝ }
-{
-    let mut addresses = [0u64; 64];
-    let number = read_into(file, &mut addresses);
-    if number != 0 {
-        return no_ring(number);
-    }
-    let head = head_of(file);
-    let n = head.others as usize + 1;
-    let limit = head.limit as u8;
-    RingRead {
-        number: 0,
-        ring: Ring {
-            n,
-            limit,
-            addresses,
-        },
-    }
 }

@@ -6,6 +6,7 @@ use mathlib.Core.List.{List, [], _∷_, _++_}
 use lib.Dec.{ltb, leb, eqb}
 use lib.ListN.{length, take, drop, getD}
 use Rattle.codec.specs.Order.{firstOf}
+use Rattle.codec.specs.Sizes.{mostInformation}
 use Rattle.codec.specs.Octets.{octets, numberAt, laid, zeros}
 use Rattle.codec.specs.Ring.{isMember}
 use Rattle.packet_codec.specs.declared.packet.Short.{Short}
@@ -16,6 +17,16 @@ use Rattle.packet_codec.specs.declared.fields.Looked.{Looked}
 use Rattle.packet_codec.specs.declared.fields.Looked.the-variants.{Sound, Bad}
 use Rattle.packet_codec.specs.declared.reading.Read.{Read}
 use Rattle.packet_codec.specs.declared.reading.Read.the-variants.{Refused, Good}
+
+-- ---- the packet's constants, with mostInformation
+
+-- the octets of a short packet, and the least that any packet has
+abbrev pub shortPacket : ℕ
+shortPacket = 46
+
+-- the most octets that any packet has
+abbrev pub longestPacket : ℕ
+longestPacket = 1500
 
 -- ---- constructors
 
@@ -36,14 +47,14 @@ informationLength (Token p) = 0
 informationLength (Transmit p) = 0
 informationLength (Information h) = h .length
 
--- where the zeros begin that go up to 46
+-- where the zeros begin that go up to the length of a short packet
 abbrev pub padFrom : Packet → ℕ
 padFrom (Token p) = 22
 padFrom (Transmit p) = 22
 padFrom (Information h) = 8 + h .length
 
 abbrev pub size : Packet → ℕ
-size p = max 46 (padFrom p)
+size p = max shortPacket (padFrom p)
 
 -- octets on the wire
 abbrev pub wireOctets : Packet → ℕ
@@ -51,9 +62,12 @@ wireOctets (Token p) = 72
 wireOctets (Transmit p) = 72
 wireOctets (Information h) = max 72 (34 + h .length)
 
--- the information is that part of the packet's octets
-unfoldable pub informationPart : Packet → List ℕ → List ℕ
-informationPart p s = cond (leb (8 + informationLength p) (length s)) (take (informationLength p) (drop 8 s)) []
+-- n octets of information are that part of the packet's octets
+unfoldable pub informationIn : List ℕ → ℕ → List ℕ
+informationIn s n = cond (leb (8 + n) (length s)) (take n (drop 8 s)) []
+
+abbrev pub informationPart : Packet → List ℕ → List ℕ
+informationPart p s = informationIn s (informationLength p)
 
 -- ---- the octets, in wire order
 
@@ -70,7 +84,7 @@ abbrev pub headOctets : Head → List ℕ
 headOctets h = startOctets 3 (h .priority) (h .number) ++ (octets 2 (h .channel) ++ octets 2 (h .length))
 
 abbrev pub informationOctets : Head → List ℕ → List ℕ
-informationOctets h info = headOctets h ++ (info ++ zeros (46 - (8 + length info)))
+informationOctets h info = headOctets h ++ (info ++ zeros (shortPacket - (8 + length info)))
 
 unfoldable pub packetOctets : Packet → List ℕ → List ℕ
 packetOctets (Token p) info = shortOctets 1 p
@@ -116,7 +130,7 @@ fieldTests ring (Transmit p) =
 fieldTests ring (Information h) =
     (eqb (h .priority) 0, Bad 1)
     ∷ (ltb 7 (h .channel), Bad 4)
-    ∷ (ltb 1492 (h .length), Bad 6)
+    ∷ (ltb mostInformation (h .length), Bad 6)
     ∷ []
 
 -- each of k pad octets from a place on
@@ -134,7 +148,7 @@ lengthFrom (Transmit p) = 0
 lengthFrom (Information h) = 6
 
 abbrev pub restTests : List ℕ → Packet → List (Bool × Looked)
-restTests s p = padTests s (padFrom p) (46 - padFrom p) ++ lengthTests (length s) (size p) (lengthFrom p)
+restTests s p = padTests s (padFrom p) (shortPacket - padFrom p) ++ lengthTests (length s) (size p) (lengthFrom p)
 
 abbrev pub readTests : List ℕ → List ℕ → Packet → List (Bool × Looked)
 readTests ring s p = fieldTests ring p ++ restTests s p
@@ -157,8 +171,8 @@ isBad (Bad from) = true
 unfoldable pub readPacket : List ℕ → List ℕ → Read
 readPacket ring s =
     firstOf (Good (packetOf s))
-    ((ltb (length s) 46, Refused 10)
-    ∷ (ltb 1500 (length s), Refused 10)
+    ((ltb (length s) shortPacket, Refused 10)
+    ∷ (ltb longestPacket (length s), Refused 10)
     ∷ (ltb (identifier s) 1, Refused 11)
     ∷ (ltb 3 (identifier s), Refused 11)
     ∷ (isBad (firstOf Sound (readTests ring s (packetOf s))), Refused 12)
@@ -172,7 +186,7 @@ readNumber (Good p) = 0
 unfoldable pub writeRefusal : List ℕ → Packet → ℕ → ℕ → ℕ
 writeRefusal ring p info room =
     firstOf 0
-    ((ltb room 1500, 9)
+    ((ltb room longestPacket, 9)
     ∷ (isBad (firstOf Sound (writeTests ring p info)), 12)
     ∷ [])
 

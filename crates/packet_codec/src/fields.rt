@@ -5,7 +5,7 @@ ghost use lib.ListN.{length};
 ghost use Rattle.codec.specs.Order.{firstOf};
 ghost use Rattle.packet_codec.specs.declared.fields.Looked.the-variants.{Sound};
 ghost use Rattle.packet_codec.specs.declared.packet.Packet.the-variants.{Token, Transmit, Information};
-ghost use Rattle.packet_codec.specs.Packet.{belongs, failingBad, fieldTests, padTests, lengthTests, restTests, thenLooked};
+ghost use Rattle.packet_codec.specs.Packet.{shortPacket, belongs, failingBad, fieldTests, padTests, lengthTests, restTests, thenLooked};
 use crate::packet::Head;
 use crate::packet::Packet;
 use crate::packet::Short;
@@ -80,7 +80,7 @@ pub fn look_information(ring: &[u64], p: Head) -> Looked
     if 7 < p.channel {
         return Looked::Bad(Packet::CHANNEL);
     }
-    if 1492 < p.length {
+    if Packet::INFORMATION < p.length as usize {
         return Looked::Bad(Packet::LENGTH);
     }
     Looked::Sound
@@ -88,8 +88,8 @@ pub fn look_information(ring: &[u64], p: Head) -> Looked
 
 // The zeros up to the length of a short packet.
 pub fn look_pad(s: &[u8], from: usize) -> Looked
-    requires { ⌜ 46 ≤ length (now s) ⌝ }
-    ensures { λ r. ⌜ r ≡ firstOf Sound (padTests (now (s .entry)) from (46 - from)) ⌝ }
+    requires { ⌜ shortPacket ≤ length (now s) ⌝ }
+    ensures { λ r. ⌜ r ≡ firstOf Sound (padTests (now (s .entry)) from (shortPacket - from)) ⌝ }
 {
     if Packet::SHORT <= from {
         return Looked::Sound;
@@ -123,7 +123,7 @@ pub fn then_length(fields: Looked, is: usize, called: usize, from: usize) -> Loo
 
 // What follows the fields of a packet that is read: its zeros, then its length.
 pub fn look_rest(s: &[u8], p: Packet) -> Looked
-    requires { ⌜ 46 ≤ length (now s) ⌝ }
+    requires { ⌜ shortPacket ≤ length (now s) ⌝ }
     ensures { λ r. ⌜ r ≡ firstOf Sound (restTests (now (s .entry)) p) ⌝ }
 {
     match look_pad(s, p.pad_from()) {
@@ -134,7 +134,7 @@ pub fn look_rest(s: &[u8], p: Packet) -> Looked
 
 // The rest of a packet that is read, after what its fields gave.
 pub fn then_rest(fields: Looked, s: &[u8], p: Packet) -> Looked
-    requires { ⌜ 46 ≤ length (now s) ⌝ }
+    requires { ⌜ shortPacket ≤ length (now s) ⌝ }
     ensures { λ r. ⌜ r ≡ thenLooked fields (firstOf Sound (restTests (now (s .entry)) p)) ⌝ }
 {
     match fields {

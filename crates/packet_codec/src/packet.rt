@@ -1,7 +1,8 @@
 // The packet: its own type, its constants and constructors, its sizes, and the information as a part of the octets.
 ghost use mathlib.Core.Path.{_≡_};
-ghost use Prim.Native.Nat.{_<_, max};
-ghost use Rattle.packet_codec.specs.Packet.{token, transmit, information, informationLength, size, wireOctets, padFrom, lengthFrom, informationPart};
+ghost use Prim.Native.Nat.{max};
+ghost use Rattle.packet_codec.specs.Packet.{token, transmit, information, size, wireOctets, padFrom, lengthFrom, informationIn};
+use codec::sizes::INFORMATION;
 
 // What token and transmit token hold. A failing station of 0 means none.
 pub struct Short {
@@ -30,7 +31,7 @@ impl Packet {
     // The octets of a short packet, and the least that any packet has.
     pub const SHORT: usize = 46;
     // The most octets of information.
-    pub const INFORMATION: usize = 1492;
+    pub const INFORMATION: usize = INFORMATION;
     // The most octets that any packet has.
     pub const LONGEST: usize = 1500;
 
@@ -88,17 +89,6 @@ impl Packet {
         })
     }
 
-    // How many octets of information it has.
-    pub fn information_length(self) -> usize
-        ensures { λ r. ⌜ (r ≡ informationLength self) × (r < 65536) ⌝ }
-    {
-        match self {
-            Packet::Token(_) => 0,
-            Packet::Transmit(_) => 0,
-            Packet::Information(h) => h.length as usize,
-        }
-    }
-
     // Where its zeros begin, which go up to the length of a short packet.
     pub fn pad_from(self) -> usize
         ensures { λ r. ⌜ r ≡ padFrom self ⌝ }
@@ -139,11 +129,11 @@ impl Packet {
         }
     }
 
-    // The information, as that part of the octets that the packet was read from: no octets where they are too few.
-    pub fn information_part(self, s: &[u8]) -> &[u8]
-        ensures { λ r. ⌜ now r ≡ informationPart self (now (s .entry)) ⌝ }
+    // So many octets of information, as that part of the packet's octets: none where they are too few.
+    pub fn information_in(s: &[u8], n: u16) -> &[u8]
+        ensures { λ r. ⌜ now r ≡ informationIn (now (s .entry)) n ⌝ }
     {
-        let end = Packet::PAYLOAD + self.information_length();
+        let end = Packet::PAYLOAD + n as usize;
         if end <= s.len() {
             &s[Packet::PAYLOAD..end]
         } else {

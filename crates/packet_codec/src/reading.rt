@@ -5,7 +5,7 @@ ghost use Prim.Native.Nat.{_≤_, _<_};
 ghost use lib.ListN.{length};
 ghost use Rattle.codec.specs.Order.{firstOf};
 ghost use Rattle.packet_codec.specs.declared.fields.Looked.the-variants.{Sound};
-ghost use Rattle.packet_codec.specs.Packet.{identifier, shortOf, headOf, packetOf, readTests, isBad, readPacket, readNumber};
+ghost use Rattle.packet_codec.specs.Packet.{shortPacket, identifier, shortOf, headOf, packetOf, readTests, isBad, readPacket, readNumber};
 use crate::fields::Looked;
 use crate::fields::look_information;
 use crate::fields::look_token;
@@ -23,7 +23,7 @@ pub enum Read {
 }
 
 pub fn short_of(s: &[u8]) -> Short
-    requires { ⌜ 46 ≤ length (now s) ⌝ }
+    requires { ⌜ shortPacket ≤ length (now s) ⌝ }
     ensures { λ r. ⌜ r ≡ shortOf (now (s .entry)) ⌝ }
 {
     Short {
@@ -36,7 +36,7 @@ pub fn short_of(s: &[u8]) -> Short
 }
 
 pub fn head_of(s: &[u8]) -> Head
-    requires { ⌜ 46 ≤ length (now s) ⌝ }
+    requires { ⌜ shortPacket ≤ length (now s) ⌝ }
     ensures { λ r. ⌜ r ≡ headOf (now (s .entry)) ⌝ }
 {
     Head {
@@ -49,7 +49,7 @@ pub fn head_of(s: &[u8]) -> Head
 
 // The packet that the fields make, by the identifier.
 pub fn packet_of(s: &[u8]) -> Packet
-    requires { ⌜ 46 ≤ length (now s) ⌝ }
+    requires { ⌜ shortPacket ≤ length (now s) ⌝ }
     ensures { λ r. ⌜ r ≡ packetOf (now (s .entry)) ⌝ }
 {
     let identifier = s[0];
@@ -64,7 +64,7 @@ pub fn packet_of(s: &[u8]) -> Packet
 
 // Everything about a token or a transmit token that is read.
 fn look_short(ring: &[u64], s: &[u8]) -> Looked
-    requires { ⌜ (46 ≤ length (now s)) × ((1 ≤ identifier (now s)) × (identifier (now s) < 3)) ⌝ }
+    requires { ⌜ (shortPacket ≤ length (now s)) × ((1 ≤ identifier (now s)) × (identifier (now s) < 3)) ⌝ }
     ensures { λ r. ⌜ r ≡ firstOf Sound (readTests (now (ring .entry)) (now (s .entry)) (packetOf (now (s .entry)))) ⌝ }
 {
     let p = short_of(s);
@@ -77,7 +77,7 @@ fn look_short(ring: &[u64], s: &[u8]) -> Looked
 
 // Everything about information that is read.
 fn look_long(ring: &[u64], s: &[u8]) -> Looked
-    requires { ⌜ (46 ≤ length (now s)) × (identifier (now s) ≡ 3) ⌝ }
+    requires { ⌜ (shortPacket ≤ length (now s)) × (identifier (now s) ≡ 3) ⌝ }
     ensures { λ r. ⌜ r ≡ firstOf Sound (readTests (now (ring .entry)) (now (s .entry)) (packetOf (now (s .entry)))) ⌝ }
 {
     let p = head_of(s);

@@ -4,7 +4,7 @@ ghost use Prim.Native.Nat.{_+_, _-_, _≤_};
 ghost use lib.ListN.{length};
 ghost use Rattle.codec.specs.Octets.{laid};
 ghost use Rattle.packet_codec.specs.declared.packet.Packet.the-variants.{Token, Transmit, Information};
-ghost use Rattle.packet_codec.specs.Packet.{startOctets, addressesOctets, shortOctets, headOctets, informationOctets, Written};
+ghost use Rattle.packet_codec.specs.Packet.{shortPacket, longestPacket, startOctets, addressesOctets, shortOctets, headOctets, informationOctets, Written};
 use crate::fields::Looked;
 use crate::fields::look_information;
 use crate::fields::look_token;
@@ -19,7 +19,7 @@ use codec::octets::put;
 
 // Identifier, priority and number.
 pub fn lay_start(out: &mut [u8], identifier: u8, priority: u8, number: u16)
-    requires { ⌜ 46 ≤ length (now out) ⌝ }
+    requires { ⌜ shortPacket ≤ length (now out) ⌝ }
     ensures { λ _. ⌜ now (out .exit) ≡ laid (now (out .entry)) 0 (startOctets identifier priority number) ⌝ }
 {
     put(out, 0, 1, identifier as u64);
@@ -29,7 +29,7 @@ pub fn lay_start(out: &mut [u8], identifier: u8, priority: u8, number: u16)
 
 // Master, failing and named station.
 pub fn lay_addresses(out: &mut [u8], master: u64, failing: u64, named: u64)
-    requires { ⌜ 46 ≤ length (now out) ⌝ }
+    requires { ⌜ shortPacket ≤ length (now out) ⌝ }
     ensures { λ _. ⌜ now (out .exit) ≡ laid (now (out .entry)) 4 (addressesOctets master failing named) ⌝ }
 {
     put(out, Packet::MASTER, 6, master);
@@ -38,7 +38,7 @@ pub fn lay_addresses(out: &mut [u8], master: u64, failing: u64, named: u64)
 }
 
 pub fn lay_short(out: &mut [u8], identifier: u8, p: Short)
-    requires { ⌜ 46 ≤ length (now out) ⌝ }
+    requires { ⌜ shortPacket ≤ length (now out) ⌝ }
     ensures { λ _. ⌜ now (out .exit) ≡ laid (now (out .entry)) 0 (shortOctets identifier p) ⌝ }
 {
     lay_start(out, identifier, p.priority, p.number);
@@ -48,7 +48,7 @@ pub fn lay_short(out: &mut [u8], identifier: u8, p: Short)
 
 // Everything of an information packet before its octets.
 pub fn lay_head(out: &mut [u8], h: Head)
-    requires { ⌜ 46 ≤ length (now out) ⌝ }
+    requires { ⌜ shortPacket ≤ length (now out) ⌝ }
     ensures { λ _. ⌜ now (out .exit) ≡ laid (now (out .entry)) 0 (headOctets h) ⌝ }
 {
     lay_start(out, 3, h.priority, h.number);
@@ -58,7 +58,7 @@ pub fn lay_head(out: &mut [u8], h: Head)
 
 // How many zeros follow up to the length of a short packet.
 pub fn pad(from: usize) -> usize
-    ensures { λ r. ⌜ r ≡ 46 - from ⌝ }
+    ensures { λ r. ⌜ r ≡ shortPacket - from ⌝ }
 {
     if from < Packet::SHORT {
         Packet::SHORT - from
@@ -68,7 +68,7 @@ pub fn pad(from: usize) -> usize
 }
 
 pub fn lay_information(out: &mut [u8], h: Head, information: &[u8])
-    requires { ⌜ (46 ≤ length (now out)) × (8 + length (now information) ≤ length (now out)) ⌝ }
+    requires { ⌜ (shortPacket ≤ length (now out)) × (8 + length (now information) ≤ length (now out)) ⌝ }
     ensures { λ _. ⌜ now (out .exit) ≡ laid (now (out .entry)) 0 (informationOctets h (now (information .entry))) ⌝ }
 {
     lay_head(out, h);
@@ -92,7 +92,7 @@ pub fn write_packet(ring: &[u64], p: Packet, information: &[u8], out: &mut [u8])
 
 // Each kind of packet, where there is room: apart, so that the kind is asked for once.
 fn write_token(ring: &[u64], q: Short, information: &[u8], out: &mut [u8]) -> u32
-    requires { ⌜ 1500 ≤ length (now out) ⌝ }
+    requires { ⌜ longestPacket ≤ length (now out) ⌝ }
     ensures { λ r. ⌜ Written (now (ring .entry)) (Token q) (now (information .entry)) (now (out .entry)) r (now (out .exit)) ⌝ }
 {
     match then_length(look_token(ring, q), information.len(), 0, 0) {
@@ -105,7 +105,7 @@ fn write_token(ring: &[u64], q: Short, information: &[u8], out: &mut [u8]) -> u3
 }
 
 fn write_transmit(ring: &[u64], q: Short, information: &[u8], out: &mut [u8]) -> u32
-    requires { ⌜ 1500 ≤ length (now out) ⌝ }
+    requires { ⌜ longestPacket ≤ length (now out) ⌝ }
     ensures { λ r. ⌜ Written (now (ring .entry)) (Transmit q) (now (information .entry)) (now (out .entry)) r (now (out .exit)) ⌝ }
 {
     match then_length(look_transmit(ring, q), information.len(), 0, 0) {
@@ -118,7 +118,7 @@ fn write_transmit(ring: &[u64], q: Short, information: &[u8], out: &mut [u8]) ->
 }
 
 fn write_information(ring: &[u64], h: Head, information: &[u8], out: &mut [u8]) -> u32
-    requires { ⌜ 1500 ≤ length (now out) ⌝ }
+    requires { ⌜ longestPacket ≤ length (now out) ⌝ }
     ensures { λ r. ⌜ Written (now (ring .entry)) (Information h) (now (information .entry)) (now (out .entry)) r (now (out .exit)) ⌝ }
 {
     let called = h.length as usize;

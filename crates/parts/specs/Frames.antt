@@ -3,6 +3,7 @@ use mathlib.Core.Bool.{Bool, true, false, not}
 use mathlib.Core.List.{List, [], _∷_}
 use Prim.Native.Nat.{ℕ, _+_, _%_, _^_}
 use lib.Dec.{ltb, leb, eqb}
+use Rattle.codec.specs.Sizes.{mostInformation}
 use Rattle.parts.specs.Choose.{pick, allOf}
 use Rattle.parts.specs.declared.list.Flight.{Flight}
 use Rattle.parts.specs.declared.frame.Whom.{Whom}
@@ -53,7 +54,7 @@ abbrev pub fitTransmit : ℕ → ℕ → ℕ → ℕ → Bool
 fitTransmit n priority master named = pick (eqb priority 0) false (pick (leb n master) false (ltb named n))
 
 abbrev pub fitInformation : ℕ → ℕ → ℕ → Bool
-fitInformation priority channel length = pick (eqb priority 0) false (pick (ltb 7 channel) false (leb length 1492))
+fitInformation priority channel length = pick (eqb priority 0) false (pick (ltb 7 channel) false (leb length mostInformation))
 
 abbrev pub fit : ℕ → Frame → Bool
 fit n (Token number priority master failing named) = fitToken n master failing named

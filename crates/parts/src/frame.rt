@@ -12,6 +12,7 @@ ghost use Rattle.parts.specs.Frames.{
   fit,
 };
 use crate::list::Flight;
+use codec::sizes::INFORMATION;
 
 // A station, or none.
 pub enum Whom {
@@ -171,7 +172,7 @@ fn fit_information(priority: u8, channel: u8, length: u16) -> bool
     if 7 < channel {
         return false;
     }
-    length <= 1492
+    length as usize <= INFORMATION
 }
 
 // Whether a frame is fit to write on a ring of `n`.

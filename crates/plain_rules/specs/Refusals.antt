@@ -4,6 +4,7 @@ use mathlib.Core.List.{List, [], _∷_}
 use Prim.Native.Nat.{ℕ}
 use lib.Dec.{leb, eqb, ltb}
 use Rattle.codec.specs.Order.{firstOf}
+use Rattle.codec.specs.Sizes.{mostInformation}
 use Rattle.parts.specs.declared.list.Best.{Best}
 
 -- sender or addressee not a member, both the same, sender not live or this station
@@ -28,7 +29,7 @@ queueRefusal n own live len to priority channel length =
     ∷ (eqb to own, 15)
     ∷ (not live, 16)
     ∷ (ltb 7 channel, 17)
-    ∷ (ltb 1492 length, 18)
+    ∷ (ltb mostInformation length, 18)
     ∷ (leb 16 len, 19)
     ∷ [])
 

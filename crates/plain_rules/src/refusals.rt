@@ -1,6 +1,7 @@
 // Checks in their order: the number of the first that holds, or 0.
 ghost use mathlib.Core.Path.{_≡_};
 ghost use Rattle.plain_rules.specs.Refusals.{heardRefusal, queueRefusal, takeRefusal};
+use codec::sizes::INFORMATION;
 use parts::list::Best;
 
 // A heard frame's checks.
@@ -56,7 +57,7 @@ pub fn queue_refusal(
     if 7 < channel {
         return 17;
     }
-    if 1492 < length {
+    if INFORMATION < length {
         return 18;
     }
     if 16 <= len {

@@ -5,8 +5,7 @@ use Prim.Native.String.{String, [] as end, _∷_ as _∷ₛ_}
 use mathlib.Core.Bool.{cond}
 use mathlib.Core.List.{List, [], _∷_, _++_}
 use lib.ListN.{length, take, replicate}
-use Rattle.codec.specs.declared.ring.Ring.{Ring}
-use Rattle.codec.specs.Ring.{ringFile, readRing}
+use Rattle.codec.specs.Ring.{Ring, ringFile, readRing}
 use Rattle.packet_codec.specs.Packet.{information, wireOctets}
 use Rattle.parts.specs.declared.frame.Whom.the-variants.{Nobody}
 use Rattle.parts.specs.declared.frame.Frame.the-variants.{Token}

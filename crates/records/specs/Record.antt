@@ -1,5 +1,5 @@
--- The record: a station of a ring in 671 octets. The ring file's octets and zeros up to 386, then the station's fields, every octet
--- fixed. "A record is whole if it reads by docs/'s layout, length included; its ring is good; ..."
+-- The record: a station of a ring in octets. The ring file's and zeros up to the longest ring file's length, then the station's fields,
+-- every octet fixed. "A record is whole if it reads by docs/'s layout, length included; its ring is good; ..."
 use Prim.Native.Nat.{ℕ, _+_, _-_, _*_}
 use mathlib.Core.Bool.{Bool, true, false, not}
 use mathlib.Core.List.{List, [], _∷_, _++_}
@@ -7,9 +7,7 @@ use lib.Dec.{eqb}
 use lib.ListN.{length, take}
 use Rattle.codec.specs.Order.{firstOf}
 use Rattle.codec.specs.Octets.{octets, numberAt, zeros, firstNonzero}
-use Rattle.codec.specs.Ring.{count, readRing, noRing}
-use Rattle.codec.specs.declared.ring.Ring.{Ring}
-use Rattle.codec.specs.declared.ring.RingRead.{RingRead}
+use Rattle.codec.specs.Ring.{Ring, RingRead, count, readRing, noRing}
 use Rattle.parts.specs.Choose.{allOf}
 use Rattle.station.specs.Stations.{made}
 use Rattle.wholeness.specs.Whole.{whole}
@@ -25,10 +23,13 @@ countsOctets lost givenup = octets 4 lost ++ octets 4 givenup
 abbrev pub listsOctets : Station → List ℕ
 listsOctets s = messagesOctets (s .sends) ++ messagesOctets (s .receives)
 
+-- the fields before the lists
+abbrev pub headOctets : Station → List ℕ
+headOctets s = turnOctets (s .own) (s .turn) ++ (countsOctets (s .lost) (s .givenup) ++ liveOctets (s .live))
+
 -- the fields, in their order
 abbrev pub stationOctets : Station → List ℕ
-stationOctets s =
-    (turnOctets (s .own) (s .turn) ++ (countsOctets (s .lost) (s .givenup) ++ liveOctets (s .live))) ++ listsOctets s
+stationOctets s = headOctets s ++ listsOctets s
 
 abbrev pub ringOctets : List ℕ → List ℕ
 ringOctets file = file ++ zeros (ringRoom - length file)

@@ -7,9 +7,8 @@ use lib.Dec.{ltb, eqb}
 use lib.ListN.{length, take, getD}
 use Rattle.codec.specs.Order.{firstOf}
 use Rattle.codec.specs.Octets.{laid}
-use Rattle.codec.specs.Ring.{readRing}
-use Rattle.packet_codec.specs.Packet.{size, wireOctets, packetOctets, writeRefusal, kept}
-use Rattle.codec.specs.declared.ring.Ring.{Ring}
+use Rattle.codec.specs.Ring.{Ring, readRing}
+use Rattle.packet_codec.specs.Packet.{longestPacket, size, wireOctets, packetOctets, writeRefusal, kept}
 use Rattle.packet_codec.specs.declared.packet.Short.{Short}
 use Rattle.packet_codec.specs.declared.packet.Head.{Head}
 use Rattle.packet_codec.specs.declared.packet.Packet.{Packet}
@@ -83,7 +82,7 @@ madeOf v =
 
 -- 9, then 12
 unfoldable pub madeRefusal : List ℕ → Made → ℕ → ℕ → ℕ
-madeRefusal ring Nothing n room = firstOf 12 ((ltb room 1500, 9) ∷ [])
+madeRefusal ring Nothing n room = firstOf 12 ((ltb room longestPacket, 9) ∷ [])
 madeRefusal ring (Of p) n room = writeRefusal ring p n room
 
 abbrev pub madeOctets : Made → List ℕ → List ℕ

@@ -4,7 +4,7 @@ ghost use mathlib.Core.List.{List, [], _∷_, _++_};
 ghost use Prim.Native.Nat.{_+_, _≤_, _<_};
 ghost use lib.ListN.{length};
 ghost use Rattle.codec.specs.Octets.{laid};
-ghost use Rattle.packet_codec.specs.Packet.{packetOf, readPacket, readNumber};
+ghost use Rattle.packet_codec.specs.Packet.{shortPacket, packetOf, readPacket, readNumber};
 ghost use Rattle.rtep.specs.declared.Made.the-variants.{Nothing, Packet as Of};
 ghost use Rattle.rtep.specs.Told.{RingTold, valuesOf, shortValues, headValues, readTold, shortMade, headMade, madeOf, madeRefusal, WriteTold};
 use codec::head::head_of;
@@ -66,7 +66,7 @@ pub extern "C" fn rtep_ring(file: &[u8], told: &mut [u64; 66]) -> u32
 
 // The eight numbers of the packet that the octets make: identifier, priority, number, master, failing, named, channel, length.
 pub fn values_in(s: &[u8]) -> [u64; 8]
-    requires { ⌜ 46 ≤ length (now s) ⌝ }
+    requires { ⌜ shortPacket ≤ length (now s) ⌝ }
     ensures { λ r. ⌜ r ≡ valuesOf (packetOf (now (s .entry))) ⌝ }
 {
     let identifier = s[0];

@@ -1,18 +1,17 @@
 -- What each call of a driver gives back and leaves: the number, the record, the store, the buffer and what is told, on success and on
 -- refusal. Each is the station's rule on the station that the record holds.
-use Prim.Native.Nat.{ℕ, _+_}
+use Prim.Native.Nat.{ℕ}
 use mathlib.Core.Path.{_≡_}
 use mathlib.Core.Bool.{Bool, true, not}
 use mathlib.Core.List.{List, [], _∷_}
 use lib.Dec.{ltb, leb, eqb}
-use lib.ListN.{length, take, drop}
+use lib.ListN.{length, take}
 use Rattle.codec.specs.Order.{firstOf}
 use Rattle.codec.specs.Octets.{laid}
-use Rattle.codec.specs.Ring.{position, isMember, readRing}
-use Rattle.packet_codec.specs.Packet.{readPacket, kept}
+use Rattle.codec.specs.Ring.{Ring, position, isMember, readRing}
+use Rattle.packet_codec.specs.Packet.{longestPacket, informationIn, readPacket, kept}
 use Rattle.packet_codec.specs.declared.reading.Read.{Read}
 use Rattle.packet_codec.specs.declared.reading.Read.the-variants.{Refused, Good}
-use Rattle.codec.specs.declared.ring.Ring.{Ring}
 use Rattle.parts.specs.Choose.{pick}
 use Rattle.station.specs.Stations.{made, answered, moved, unless}
 use Rattle.station.specs.Start.{startRule}
@@ -48,7 +47,7 @@ callNumber badBuffer rec a = firstOf (a .number) ((badBuffer, 9) ∷ (not (readR
 
 -- an out buffer under 1,500 octets, a store not of 47,744
 abbrev pub badOut : ℕ → Bool
-badOut out = ltb out 1500
+badOut out = ltb out longestPacket
 
 abbrev pub badStore : ℕ → Bool
 badStore store = not (eqb store storeLength)
@@ -125,7 +124,7 @@ frameAnswer rec from to packet = packetRule (stationIn rec) (ringIn rec) from to
 -- the information of a heard frame whose message is stored
 unfoldable pub heardInformation : List ℕ → Payload → List ℕ
 heardInformation packet NoPayload = []
-heardInformation packet (Of m) = pick (leb (8 + m .length) (length packet)) (take (m .length) (drop 8 packet)) []
+heardInformation packet (Of m) = informationIn packet (m .length)
 
 -- a heard message goes into its receive place; every other octet stays
 abbrev pub storeHeard : List ℕ → List ℕ → Payload → List ℕ

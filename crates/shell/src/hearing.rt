@@ -27,14 +27,7 @@ pub fn heard_information(packet: &[u8], p: Payload) -> &[u8]
 {
     match p {
         Payload::NoPayload => &packet[..0],
-        Payload::Of(m) => {
-            let end = Packet::PAYLOAD + m.length as usize;
-            if end <= packet.len() {
-                &packet[Packet::PAYLOAD..end]
-            } else {
-                &packet[..0]
-            }
-        }
+        Payload::Of(m) => Packet::information_in(packet, m.length),
     }
 }
 

@@ -4,7 +4,8 @@ ghost use Prim.Native.Nat.{_+_, _≤_};
 ghost use lib.ListN.{length};
 ghost use Rattle.codec.specs.Octets.{laid};
 ghost use Rattle.codec.specs.Ring.{position};
-ghost use Rattle.packet_codec.specs.Packet.{packetOctets};
+ghost use Rattle.codec.specs.Sizes.{mostInformation};
+ghost use Rattle.packet_codec.specs.Packet.{shortPacket, longestPacket, packetOctets};
 ghost use mathlib.Core.List.{[]};
 ghost use Rattle.packet_codec.specs.declared.packet.Packet.the-variants.{Token as TokenOf, Transmit as TransmitOf, Information as InformationOf};
 ghost use Rattle.shell.specs.Packets.{
@@ -155,7 +156,7 @@ pub fn frame_of(ring: &[u64], p: Packet) -> Frame
 
 // Lays a packet's octets over the start of a buffer.
 fn lay(out: &mut [u8], p: Packet, information: &[u8])
-    requires { ⌜ (46 ≤ length (now out)) × (8 + length (now information) ≤ length (now out)) ⌝ }
+    requires { ⌜ (shortPacket ≤ length (now out)) × (8 + length (now information) ≤ length (now out)) ⌝ }
     ensures { λ _. ⌜ now (out .exit) ≡ laid (now (out .entry)) 0 (packetOctets p (now (information .entry))) ⌝ }
 {
     match p {
@@ -167,7 +168,7 @@ fn lay(out: &mut [u8], p: Packet, information: &[u8])
 
 // Lays the octets of what is sent over the start of a buffer.
 pub fn compose(out: &mut [u8], ring: &[u64], d: Dispatch, information: &[u8])
-    requires { ⌜ (1500 ≤ length (now out)) × (length (now information) ≤ 1492) ⌝ }
+    requires { ⌜ (longestPacket ≤ length (now out)) × (length (now information) ≤ mostInformation) ⌝ }
     ensures { λ _. ⌜ now (out .exit) ≡ laid (now (out .entry)) 0 (sentOctets (now (ring .entry)) d (now (information .entry))) ⌝ }
 {
     match d {

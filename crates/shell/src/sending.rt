@@ -4,6 +4,7 @@ ghost use Prim.Native.Nat.{_≤_};
 ghost use lib.ListN.{length};
 ghost use Rattle.records.specs.Layout.{placeLength, recordLength};
 ghost use Rattle.codec.specs.Octets.{laid};
+ghost use Rattle.packet_codec.specs.Packet.{longestPacket};
 ghost use Rattle.shell.specs.Packets.{sentOctets};
 ghost use Rattle.shell.specs.Telling.{toldOf};
 ghost use Rattle.shell.specs.Calls.{badBuffers, recordWith, Starting, Timing};
@@ -28,7 +29,7 @@ pub fn settle(
     information: &[u8],
     a: Answer,
 )
-    requires { ⌜ (recordLength ≤ length (now rec)) × ((1500 ≤ length (now out)) × (length (now information) ≤ placeLength)) ⌝ }
+    requires { ⌜ (recordLength ≤ length (now rec)) × ((longestPacket ≤ length (now out)) × (length (now information) ≤ placeLength)) ⌝ }
     ensures { λ _. ⌜ (now (rec .exit) ≡ recordWith (now (rec .entry)) (a .station)) × ((now (out .exit) ≡ laid (now (out .entry)) 0 (sentOctets (now (ring .entry)) (a .sent) (now (information .entry)))) × (now (told .exit) ≡ laid (now (told .entry)) 0 (toldOf (now (ring .entry)) (a .sent) (a .struck) (a .gone)))) ⌝ }
 {
     let sent = a.sent;

@@ -4,6 +4,7 @@ use mathlib.Core.List.{List, [], _∷_, _++_}
 use Prim.Native.Nat.{ℕ, suc, _+_}
 use lib.ListN.{drop}
 use lib.Dec.{ltb, leb, eqb}
+use Rattle.codec.specs.Sizes.{mostInformation}
 use Rattle.parts.specs.Choose.{pick, allOf, every}
 use Rattle.parts.specs.Moves.{isWaiting, isExcluded}
 use Rattle.parts.specs.Messages.{all, flies, hasPlace, best}
@@ -71,7 +72,7 @@ messageGood n own m =
     (ltb (m .place) 16
     ∷ not (eqb (m .priority) 0)
     ∷ leb (m .channel) 7
-    ∷ leb (m .length) 1492
+    ∷ leb (m .length) mostInformation
     ∷ ltb (m .other) n
     ∷ not (eqb (m .other) own)
     ∷ [])

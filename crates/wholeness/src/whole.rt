@@ -23,6 +23,7 @@ ghost use Rattle.wholeness.specs.Whole.{
   listsGood,
   whole,
 };
+use codec::sizes::INFORMATION;
 use parts::frame::Dispatch;
 use parts::frame::Frame;
 use parts::list::Best;
@@ -129,7 +130,7 @@ pub fn message_good(n: u8, own: u8, m: Message) -> bool
     if 7 < m.channel {
         return false;
     }
-    if 1492 < m.length {
+    if INFORMATION < m.length as usize {
         return false;
     }
     if n <= m.other {

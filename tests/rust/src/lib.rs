@@ -1,11 +1,10 @@
 //! The proved exports as safe functions. They pass on what they are given and decide nothing.
-//! `model` (ring file and packets) and `station` are the independent readings of document 01 that
-//! they are held to; `ring` is a fault-free ring of plain stations.
+//! `model` is the independent reading of document 01 that they are held to, plain and slow; `yardstick`
+//! is the one that the benchmarks time them beside, made to be fast.
 
 pub mod model;
 pub mod random;
-pub mod ring;
-pub mod station;
+pub mod yardstick;
 
 mod exports {
     extern "C" {

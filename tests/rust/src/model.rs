@@ -1,13 +1,24 @@
-//! Document 01's ring file and packets, read from the page alone and with no eye to speed.
+//! The oracle: document 01's ring file and packets, and behind them its station and a fault-free ring,
+//! read from the page alone and with no eye to speed.
 //!
 //! A refusal lists everything that is wrong, in the page's order of checks, so that the tests can
 //! count which checks stood alone. The number given back is that of the first.
+
+pub mod ring;
+pub mod station;
 
 /// A good ring: R and the addresses in ring order. N is their count.
 #[derive(Debug, Clone, PartialEq, Eq)]
 pub struct Ring {
     pub retry_limit: u64,
     pub addresses: Vec<u64>,
+}
+
+impl Ring {
+    /// The position of the member with this address.
+    pub fn position(&self, address: u64) -> Option<usize> {
+        self.addresses.iter().position(|next| *next == address)
+    }
 }
 
 /// What can be wrong with a ring file, in the order of the checks.

@@ -3,12 +3,14 @@
 //!
 //! Each side has its own buffers, with other octets around them. After every call the two sides are
 //! compared: the number, and every octet and number lent, those around them included. After a
-//! refusal they are compared with what they were before, too. Each test demands that every number,
+//! refusal they are compared with what they were before, too. The yardstick of the benchmarks makes
+//! every call as well, and leaves the same. Each test demands that every number,
 //! every move and every rule came often enough; RTEP_FIGURES=1 prints how often.
 
+use rtep::model::station::{self, MESSAGES, OUT, PLACE, RECORD, STORE};
 use rtep::model::{self, Packet};
 use rtep::random::Random;
-use rtep::station::{self, MESSAGES, OUT, PLACE, RECORD, STORE};
+use rtep::yardstick;
 use std::collections::BTreeMap;
 use std::time::Instant;
 
@@ -213,7 +215,7 @@ fn around(octets: &mut [u8], len: usize) -> &mut [u8] {
 }
 
 /// A station's own buffers.
-#[derive(Clone)]
+#[derive(Clone, PartialEq)]
 struct Kept {
     record: Vec<u8>,
     store: Vec<u8>,
@@ -335,6 +337,8 @@ struct Comparison {
     plain: Lent,
     before: Lent,
     kept_before: Kept,
+    fast: Lent,
+    fast_kept: Kept,
     calls: u64,
     numbers: BTreeMap<(Event, u32), u64>,
     moves: BTreeMap<(u8, Event), u64>,
@@ -351,6 +355,8 @@ impl Comparison {
             plain: Lent::new(),
             before: Lent::new(),
             kept_before: Kept::new(&mut Random::new(seed)),
+            fast: Lent::new(),
+            fast_kept: Kept::new(&mut Random::new(seed)),
             calls: 0,
             numbers: BTreeMap::new(),
             moves: BTreeMap::new(),
@@ -374,6 +380,13 @@ impl Comparison {
             || self.library != self.plain
         {
             self.differ(both, call, lens, given, expected);
+        }
+        self.fast.copy_from(&self.before);
+        self.fast_kept.copy_from(&self.kept_before);
+        let fast = on_side!(yardstick::station, call, lens, self.fast_kept, self.fast);
+        let same = fast == expected && self.fast == self.plain;
+        if !same || self.fast_kept != both.plain {
+            panic!("{}: the yardstick differs: {}", self.place(), call.text());
         }
         if expected != 0
             && (both.plain.record != self.kept_before.record

@@ -1,9 +1,10 @@
-//! Holds the plain ring to demand 3: a message that stays strictly above every other waiting one goes
+//! Holds the model's ring to demand 3: a message that stays strictly above every other waiting one goes
 //! after at most 2N+1 short frames and one information frame of others. Random histories of rings of
 //! several sizes, and for every size from 3 the run that reaches the bound.
 
+use rtep::model::ring::Ring;
+use rtep::model::station::{Frame, Kind, MESSAGES, PLACE};
 use rtep::random::Random;
-use rtep::ring::{Frame, Kind, Ring, CHANNELS, LONGEST_PAYLOAD};
 
 const SEED: u64 = 0x5254_4550_0000_0031;
 
@@ -20,6 +21,8 @@ const RUNS: [(u8, usize); 8] = [
 ];
 /// A history begins anew after so many.
 const HISTORY: usize = 40;
+const CHANNELS: u16 = 8;
+const LONGEST_PAYLOAD: u16 = PLACE as u16;
 
 // ---------------------------------------------------------------------------------------------
 // What is counted
@@ -42,10 +45,10 @@ impl Wait {
 
     fn count(&mut self, frame: &Frame) {
         match frame.kind {
-            Kind::Token { .. } | Kind::Transmit => self.shorts += 1,
-            Kind::Information { .. } => self.informations += 1,
+            Kind::Token { .. } | Kind::Transmit { .. } => self.shorts += 1,
+            Kind::Information(_) => self.informations += 1,
         }
-        self.octets += u32::from(frame.octets());
+        self.octets += frame.wire() as u32;
     }
 
     fn within(&self, bound: &Wait) -> bool {
@@ -76,9 +79,9 @@ struct Call {
 }
 
 impl Call {
-    fn make(&self, ring: &mut Ring) -> Result<(), u16> {
+    fn make(&self, ring: &mut Ring) -> Result<(), u32> {
         let [from, to, priority, channel] = [self.from, self.to, self.priority, self.channel];
-        ring.queue(from.into(), to.into(), priority.into(), channel.into(), self.length)
+        ring.queue(from.into(), to.into(), priority.into(), channel.into(), self.length.into())
     }
 }
 
@@ -111,9 +114,10 @@ fn follow(ring: &mut Ring, call: &Call, mut between: impl FnMut(&mut Ring)) -> W
         ring.step();
         let frame = ring.wire;
         wait.frame += 1;
-        if let Kind::Information { channel, length } = frame.kind {
-            if (frame.from, frame.priority) == (call.from, call.priority) {
-                assert_eq!((frame.to, channel, length), (call.to, call.channel, call.length));
+        if let Kind::Information(message) = frame.kind {
+            if (frame.from as u8, message.priority) == (call.from, call.priority) {
+                let went = (frame.to as u8, message.channel, message.length as u16);
+                assert_eq!(went, (call.to, call.channel, call.length));
                 return wait;
             }
         }
@@ -176,9 +180,9 @@ impl Load {
 /// A call for a message that will be on top, where there is room for one.
 fn topping(random: &mut Random, ring: &Ring, load: &Load) -> Option<Call> {
     let members = ring.stations.len();
-    let from = if random.once_in(2) { ring.wire.from } else { random.below(members) as u8 };
+    let from = if random.once_in(2) { ring.wire.from as u8 } else { random.below(members) as u8 };
     let highest = waiting(ring).map(|(_, priority)| priority).max().unwrap_or(0);
-    if ring.stations[usize::from(from)].is_full() || highest == 255 {
+    if ring.stations[usize::from(from)].send.len() == MESSAGES || highest == 255 {
         return None;
     }
     let any = random.within(usize::from(highest) + 1..=255) as u8;
@@ -198,7 +202,7 @@ fn worst_seen(random: &mut Random, members: u8, runs: usize) -> Wait {
     let mut worst = Wait::default();
     let mut followed = 0;
     while followed < runs {
-        let mut ring = Ring::start(members);
+        let mut ring = Ring::start(members.into());
         let last = (followed + HISTORY).min(runs);
         while followed < last {
             let load = Load::draw(random);
@@ -255,7 +259,7 @@ fn a_message_on_top_goes_within_the_bound() {
 #[test]
 fn from_three_stations_on_a_run_reaches_the_bound() {
     for members in 2..=64 {
-        let mut ring = Ring::start(members);
+        let mut ring = Ring::start(members.into());
         let foreign = Call {
             from: members - 1,
             to: if members == 2 { 0 } else { 1 },

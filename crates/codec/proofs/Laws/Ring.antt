@@ -1,9 +1,9 @@
 -- Laws of the ring file's checks. Assumes nothing.
 use mathlib.Core.Path.{_≡_, refl, sym, ap, _∙_}
 use mathlib.Core.Bool.{Bool, true, false, cond}
-use mathlib.Core.List.{List, [], _∷_, _++_}
+use mathlib.Core.List.{List, [], _∷_}
 use Prim.Native.Nat.{ℕ, zero, suc, _+_, _-_, _*_, _<_, _≤_, zero-le}
-use native.Mathlib.Numerals.{add-one, unary-clauses}
+use native.Mathlib.Numerals.{add-one}
 use native.Mathlib.Omega.{arith}
 use borrow.Author.Tests.{ltb-false, eqb-true, eqb-false, not-false, ne-eqb}
 use lib.Dec.{eqb}
@@ -57,17 +57,6 @@ addresses-more-laid file l l₁ i h e =
     ∙ ap (λ (n : ℕ). set (laid l 0 (addressesOf file i)) n (bits file (16 + i * 48) 48)) (sym here)
     ∙ laid-behind l (addressesOf file i) 0 (bits file (16 + i * 48) 48) (rw here h)
     ∙ rw (add-one i)
-
-drop-zeros : (k n : ℕ) → drop k (zeros n) ≡ zeros (n - k)
-drop-zeros zero n = simp unary-clauses refl
-drop-zeros (suc k) zero = let z : 0 - suc k ≡ 0 = omega arith in ap zeros (sym z)
-drop-zeros (suc k) (suc n) = simp unary-clauses (drop-zeros k n)
-
--- over zeros they fill the array
-pub laid-filled : (members : List ℕ) → laid (zeros 64) 0 members ≡ filled members
-laid-filled members =
-    let here : 0 + length members ≡ length members = omega arith in
-    rw here (ap (λ (l : List ℕ). members ++ l) (drop-zeros (length members) 64))
 
 -- the start of an array that a file's addresses are laid over
 pub members-laid : (file l l₁ : List ℕ) (n : ℕ) → l₁ ≡ laid l 0 (addressesOf file n) → take n l₁ ≡ addressesOf file n

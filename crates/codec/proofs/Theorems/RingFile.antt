@@ -1,18 +1,13 @@
 -- A ring file that reads is the only one with its N, R and addresses: it is the file written from them. Assumes nothing.
 use mathlib.Core.Path.{_≡_, refl, sym, ap, _∙_}
-use mathlib.Core.Bool.{Bool, true, false, cond}
 use mathlib.Core.List.{List, [], _∷_, _++_, append-assoc, append-nil}
-use Prim.Native.Nat.{ℕ, zero, suc, _+_, _-_, _*_, _^_, _<_, _≤_}
+use Prim.Native.Nat.{ℕ, zero, suc, _+_, _-_, _*_, _^_, _≤_}
 use native.Mathlib.Omega.{arith}
-use borrow.Author.Tests.{eqb-true}
-use lib.Dec.{eqb}
 use lib.ListN.{length, take, drop, length-drop, take-append-drop}
 use lib.Seq.{take-add, take-all, drop-drop}
 use Rattle.codec.specs.Octets.{Octets, octets, numberAt}
 use Rattle.codec.specs.Bits.{bits}
-use Rattle.codec.specs.declared.ring.Ring.{Ring}
-use Rattle.codec.specs.declared.ring.RingRead.{RingRead}
-use Rattle.codec.specs.Ring.{form, others, count, limit, zeroBits, addressesOf, headRefusal, ringRefusal, ringOf, noRing, readRing, filled, addressOctets, ringFile}
+use Rattle.codec.specs.Ring.{form, others, count, limit, zeroBits, addressesOf, ringOf, readRing, filled, addressOctets, ringFile}
 use Rattle.codec.proofs.Laws.Octets.{field-again}
 use Rattle.codec.proofs.Laws.Bits.{bits-join, bits-octets}
 use Rattle.codec.proofs.Laws.Ring.{HeadGood, head-good, head-passed, read-zero, read-good, length-addresses, members-filled}

@@ -17,7 +17,7 @@ use Rattle.packet_codec.specs.declared.packet.Packet.the-variants.{Token
 use Rattle.packet_codec.specs.declared.fields.Looked.the-variants.{Sound, Bad}
 use Rattle.packet_codec.specs.declared.reading.Read.{Read}
 use Rattle.packet_codec.specs.declared.reading.Read.the-variants.{Refused, Good}
-use Rattle.packet_codec.specs.Packet.{shortOf, headOf, packetOf, packetOctets, shortOctets, headOctets, informationOctets, informationPart, informationLength, identifier, padFrom, lengthFrom, size, belongs, failingBad, fieldTests, padTests, lengthTests, restTests, writeTests, readTests, Fit, readPacket, isBad}
+use Rattle.packet_codec.specs.Packet.{shortOf, headOf, packetOf, packetOctets, shortOctets, headOctets, informationOctets, informationIn, informationPart, informationLength, identifier, padFrom, lengthFrom, size, belongs, failingBad, fieldTests, padTests, lengthTests, restTests, writeTests, readTests, Fit, readPacket, isBad}
 use Rattle.codec.proofs.Laws.Octets.{back, length-zeros}
 use Rattle.codec.proofs.Laws.Order.{NoneHolds, none-holds, none-append, none-split, first-passed}
 use Rattle.packet_codec.proofs.Laws.Packet.{write-apart, pads-none, fit-length}
@@ -167,7 +167,7 @@ module _ (ring : List ℕ) (h : Head) (info : List ℕ) (t : Typed (h .priority)
       passes ring s (Information h) (fields-pass ring (Information h) info e) information-of (omega (arith, id)) (omega (arith, id)) length-s (omega (arith, most)) information-pad
 
   part-back : informationPart (Information h) s ≡ info
-  unfolding informationPart s
+  unfolding informationIn s
   part-back =
       let room : 8 + h .length ≤ length s = omega (arith, length-s) in
       rw (le-leb _ _ room) (take-at info (zeros (46 - (8 + length info))) (h .length) long)
@@ -185,7 +185,7 @@ pub record ReadsAs (ring : List ℕ) (p : Packet) (info s : List ℕ) : Type 0 w
   pub part : informationPart p s ≡ info
 
 pub read-after-write : (ring : List ℕ) (p : Packet) (info : List ℕ) → TypedPacket p → Fit ring p info → ReadsAs ring p info (packetOctets p info)
-unfolding packetOctets informationPart
+unfolding packetOctets informationIn
 read-after-write ring (Token p) info t e =
     record { packet = read-token ring p info t e; part = sym (no-octets info (fit-length ring (Token p) (length info) e .0)) }
 read-after-write ring (Transmit p) info t e =

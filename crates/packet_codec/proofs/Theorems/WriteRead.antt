@@ -17,7 +17,7 @@ use Rattle.packet_codec.specs.declared.packet.Packet.the-variants.{Token
 use Rattle.packet_codec.specs.declared.fields.Looked.the-variants.{Sound, Bad}
 use Rattle.packet_codec.specs.declared.reading.Read.{Read}
 use Rattle.packet_codec.specs.declared.reading.Read.the-variants.{Refused, Good}
-use Rattle.packet_codec.specs.Packet.{identifier, shortOf, headOf, packetOf, shortOctets, headOctets, informationOctets, packetOctets, informationPart, informationLength, padFrom, lengthFrom, size, fieldTests, padTests, lengthTests, restTests, readTests, writeTests, Fit, isBad, readPacket}
+use Rattle.packet_codec.specs.Packet.{identifier, shortOf, headOf, packetOf, shortOctets, headOctets, informationOctets, packetOctets, informationIn, informationPart, informationLength, padFrom, lengthFrom, size, fieldTests, padTests, lengthTests, restTests, readTests, writeTests, Fit, isBad, readPacket}
 use Rattle.codec.proofs.Laws.Octets.{field-then, octets-take, octets-drop, number-below, length-part}
 use Rattle.codec.proofs.Laws.Order.{NoneHolds, none-gives, none-holds, none-append, none-split, first-passed}
 use Rattle.packet_codec.proofs.Laws.Packet.{sound-of, read-apart, pad-is}
@@ -113,7 +113,7 @@ module _ (s : List ℕ) (o : Octets s) (long : length s ≡ max 46 (8 + numberAt
       ∙ ap (λ (l : List ℕ). octets 2 (numberAt s 4 2) ++ (octets 2 n ++ l)) rest)
 
   part-is : informationPart (Information (headOf s)) s ≡ info
-  unfolding informationPart
+  unfolding informationIn
   part-is = let room : 8 + n ≤ length s = omega arith in rw (le-leb _ _ room)
 
 -- ---- the theorem
@@ -140,7 +140,7 @@ typed-start s o h =
     record { priority-fits = o 1; number-fits = subst (λ (k : ℕ). numberAt s 2 2 < 256 ^ k) l (number-below (take 2 (drop 2 s)) (octets-take 2 (drop 2 s) (octets-drop 2 s o))) }
 
 token-again : (ring s : List ℕ) → Octets s → identifier s ≡ 1 → Passed ring s (Token (shortOf s)) → WritesAs ring s (Token (shortOf s))
-unfolding packetOctets informationPart
+unfolding packetOctets informationIn
 token-again ring s o id h =
     record {
       again = short-again s o (h .sized) (h .pad) ∙ ap (λ (k : ℕ). shortOctets k (shortOf s)) id;
@@ -149,7 +149,7 @@ token-again ring s o id h =
     }
 
 transmit-again : (ring s : List ℕ) → Octets s → identifier s ≡ 2 → Passed ring s (Transmit (shortOf s)) → WritesAs ring s (Transmit (shortOf s))
-unfolding packetOctets informationPart
+unfolding packetOctets informationIn
 transmit-again ring s o id h =
     record {
       again = short-again s o (h .sized) (h .pad) ∙ ap (λ (k : ℕ). shortOctets k (shortOf s)) id;

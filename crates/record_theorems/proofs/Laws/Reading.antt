@@ -9,9 +9,7 @@ use lib.Dec.{eqb}
 use lib.ListN.{length, length-append}
 use lib.Seq.{drop-at, drop-length}
 use Rattle.codec.specs.Order.{firstOf}
-use Rattle.codec.specs.Ring.{readRing}
-use Rattle.codec.specs.declared.ring.Ring.{Ring}
-use Rattle.codec.specs.declared.ring.RingRead.{RingRead}
+use Rattle.codec.specs.Ring.{Ring, RingRead, readRing}
 use Rattle.codec.proofs.Laws.Order.{NoneHolds}
 use Rattle.wholeness.specs.Whole.{whole, listsGood, listGood}
 use Rattle.station.specs.declared.station.Station.{Station}

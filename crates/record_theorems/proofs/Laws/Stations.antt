@@ -2,14 +2,14 @@
 use mathlib.Core.Path.{_≡_, refl, ap, _∙_}
 use mathlib.Core.Bool.{true}
 use mathlib.Core.List.{List, [], _∷_, _++_}
-use Prim.Native.Nat.{ℕ, _+_, _<_}
+use Prim.Native.Nat.{ℕ, _+_, _-_, _<_}
 use native.Mathlib.Omega.{arith}
 use lib.ListN.{length, length-append}
 use Rattle.codec.specs.Octets.{Octets, octets, numberAt}
 use Rattle.station.specs.declared.station.Station.{Station}
 use Rattle.records.specs.Layout.{ownAt, lostAt, givenUpAt, liveAt, sendsAt, receivesAt, recordLength}
 use Rattle.records.specs.Fields.{turnAt, turnGood, turnOctets, liveFrom, flagsGood, liveOctets, messagesAt, messagesOctets}
-use Rattle.records.specs.Record.{countsOctets, listsOctets, stationOctets, stationFrom}
+use Rattle.records.specs.Record.{countsOctets, headOctets, listsOctets, stationOctets, stationFrom}
 use Rattle.records.proofs.Laws.Sizes.{length-head, length-list}
 use Rattle.record_theorems.proofs.Laws.Goes.{Goes, goes-join, goes-first, goes-second}
 use Rattle.record_theorems.proofs.Laws.Numbers.{numbers-read, numbers-written}
@@ -18,17 +18,13 @@ use Rattle.record_theorems.proofs.Laws.Flags.{LiveRead, live-written, l
 use Rattle.record_theorems.proofs.Laws.Lists.{list-written, list-reads}
 use Rattle.record_theorems.proofs.Laws.Typed.{Typed}
 
--- the octets before the lists
-abbrev headOctets : Station → List ℕ
-headOctets s = turnOctets (s .own) (s .turn) ++ (countsOctets (s .lost) (s .givenup) ++ liveOctets (s .live))
-
-pub length-station : (s : Station) → Typed s → length (stationOctets s) ≡ 285
+pub length-station : (s : Station) → Typed s → length (stationOctets s) ≡ recordLength - ownAt
 length-station s t =
-    let lists : length (listsOctets s) ≡ 194 =
+    let lists : length (listsOctets s) ≡ recordLength - sendsAt =
     length-append (messagesOctets (s .sends)) (messagesOctets (s .receives))
     ∙ omega (arith, length-list (s .sends) (t .sends .slots), length-list (s .receives) (t .receives .slots)) in
     length-append (headOctets s) (listsOctets s)
-    ∙ omega (arith, length-head (s .own) (s .turn) (s .lost) (s .givenup) (s .live) (t .seats), lists)
+    ∙ omega (arith, length-head s (t .seats), lists)
 
 -- ---- what reads is written
 
@@ -61,7 +57,7 @@ station-reads s st next t few few′ p =
     let live-is : List ℕ = liveOctets (st .live) in
     let sends-are : List ℕ = messagesOctets (st .sends) in
     let receives-are : List ℕ = messagesOctets (st .receives) in
-    let long : ownAt + length (headOctets st) ≡ sendsAt = ap (λ (n : ℕ). ownAt + n) (length-head (st .own) (st .turn) (st .lost) (st .givenup) (st .live) (t .seats)) in
+    let long : ownAt + length (headOctets st) ≡ sendsAt = ap (λ (n : ℕ). ownAt + n) (length-head st (t .seats)) in
     let head : Goes s ownAt (headOctets st) sendsAt = goes-first s (headOctets st) (listsOctets st) ownAt sendsAt next long p in
     let lists : Goes s sendsAt (listsOctets st) next = goes-second s (headOctets st) (listsOctets st) ownAt sendsAt next long p in
     let behind : Goes s lostAt (counts-are ++ live-is) sendsAt = goes-second s turn-is (counts-are ++ live-is) ownAt lostAt sendsAt refl head in

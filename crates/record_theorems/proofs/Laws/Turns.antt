@@ -2,7 +2,7 @@
 use mathlib.Core.Path.{_≡_, refl, sym, ap, _∙_, subst}
 use mathlib.Core.Bool.{true}
 use mathlib.Core.List.{List, _∷_}
-use Prim.Native.Nat.{ℕ, _<_, _≤_}
+use Prim.Native.Nat.{ℕ, _-_, _<_, _≤_}
 use borrow.Author.Tests.{eq-eqb, eqb-true}
 use lib.ListN.{length}
 use Rattle.codec.specs.Octets.{Octets, numberAt}
@@ -37,7 +37,7 @@ turn-octets own t = refl
 
 -- ---- what reads is written
 
-slip-reads : (s : List ℕ) → Reads s ownAt 6 (slipFields (slipAt s awaitedAt))
+slip-reads : (s : List ℕ) → Reads s ownAt (awaitedAt - ownAt) (slipFields (slipAt s awaitedAt))
 slip-reads s = (refl, (refl, (refl, (refl, (refl, (refl, (refl, (refl, (refl, (refl, tt))))))))))
 
 pub turn-written : (s : List ℕ) → Octets s → lostAt ≤ length s → turnGood s ≡ true → Goes s ownAt (turnOctets (numberAt s ownAt 1) (turnAt s)) lostAt
@@ -49,7 +49,7 @@ turn-written s o h good =
     let flag : handledFlag (turnAt s .handled) ≡ numberAt s handledAt 1 = eqb-true _ _ (handled .0) in
     let last : handledNumber (turnAt s .handled) ≡ numberAt s handledNumberAt 2 = eqb-true _ _ (handled .1) in
     let slip : slipOf (turnAt s .awaited) ≡ slipAt s awaitedAt = same-slip _ _ (t .1 .1 .0) in
-    let reads : Reads s ownAt 6 (slipFields (slipOf (turnAt s .awaited))) = subst (λ (p : Slip). Reads s ownAt 6 (slipFields p)) (sym slip) (slip-reads s) in
+    let reads : Reads s ownAt (awaitedAt - ownAt) (slipFields (slipOf (turnAt s .awaited))) = subst (λ (p : Slip). Reads s ownAt (awaitedAt - ownAt) (slipFields p)) (sym slip) (slip-reads s) in
     numbers-written s ownAt o (turnFields (numberAt s ownAt 1) (turnAt s)) lostAt refl h (refl, (sym state, (refl, (sym flag, (sym last, reads)))))
 
 -- ---- what is written reads

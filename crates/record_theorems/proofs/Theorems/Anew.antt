@@ -8,8 +8,7 @@ use native.Mathlib.Omega.{arith}
 use lib.ListN.{length, take, drop, take-append-drop, drop-of-length-le}
 use lib.Seq.{length-take-le}
 use Rattle.codec.specs.Octets.{laid}
-use Rattle.codec.specs.Ring.{readRing}
-use Rattle.codec.specs.declared.ring.Ring.{Ring}
+use Rattle.codec.specs.Ring.{Ring, readRing}
 use Rattle.wholeness.specs.Whole.{whole}
 use Rattle.station.specs.declared.station.Station.{Station}
 use Rattle.records.specs.Layout.{ringRoom, ownAt}

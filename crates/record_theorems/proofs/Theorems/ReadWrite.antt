@@ -4,9 +4,7 @@ use mathlib.Core.Path.{_≡_, sym, ap, _∙_, subst}
 use mathlib.Core.Bool.{true}
 use mathlib.Core.List.{List}
 use Prim.Native.Nat.{ℕ}
-use Rattle.codec.specs.Ring.{readRing}
-use Rattle.codec.specs.declared.ring.Ring.{Ring}
-use Rattle.codec.specs.declared.ring.RingRead.{RingRead}
+use Rattle.codec.specs.Ring.{Ring, RingRead, readRing}
 use Rattle.wholeness.specs.Whole.{whole}
 use Rattle.station.specs.declared.station.Station.{Station}
 use Rattle.records.specs.Record.{Loaded, ringOctets, recordOctets, fileOf, readRecord}

@@ -8,8 +8,7 @@ use native.Mathlib.Omega.{arith}
 use borrow.Author.Tests.{eqb-true}
 use lib.ListN.{length, drop, take-append-drop, drop-of-length-le}
 use Rattle.codec.specs.Octets.{Octets, zeros, firstNonzero}
-use Rattle.codec.specs.Ring.{readRing, ringFile}
-use Rattle.codec.specs.declared.ring.Ring.{Ring}
+use Rattle.codec.specs.Ring.{Ring, readRing, ringFile}
 use Rattle.codec.proofs.Laws.Octets.{octets-take}
 use Rattle.codec.proofs.Theorems.RingFile.{file-again}
 use Rattle.records.specs.Layout.{ringRoom, ownAt, recordLength}

@@ -13,7 +13,7 @@ use Rattle.codec.proofs.Laws.Octets.{length-zeros, length-laid, laid-laid, laid
 use Rattle.parts.specs.Live.{seats, full}
 use Rattle.parts.proofs.Laws.Live.{seats-inside, seats-all}
 use Rattle.station.specs.Stations.{made}
-use Rattle.records.specs.Layout.{ringRoom, ownAt, liveAt, recordLength}
+use Rattle.records.specs.Layout.{ringRoom, ownAt, stateAt, lostAt, liveAt, sendsAt, recordLength}
 use Rattle.records.specs.Tables.{joined}
 use Rattle.records.specs.Fields.{flagNumber, flagOctets, liveOctets, turnOctets, slipOf, ones}
 use Rattle.records.specs.Record.{countsOctets, listsOctets, stationOctets, ringOctets, recordOctets}
@@ -85,11 +85,11 @@ unfolding full
 live-made n h =
     rw (seats-few n h) (flags-then n true (replicate (64 - n) false) ∙ ap (λ (o : List ℕ). ones n ++ o) (flags-same (64 - n) false))
 
-turn-made : (n own : ℕ) → turnOctets own (made n 0 own .turn) ≡ octets 1 own ++ zeros 18
+turn-made : (n own : ℕ) → turnOctets own (made n 0 own .turn) ≡ octets 1 own ++ zeros (lostAt - stateAt)
 unfolding slipOf
 turn-made n own = refl
 
-lists-made : (n own : ℕ) → listsOctets (made n 0 own) ≡ zeros 194
+lists-made : (n own : ℕ) → listsOctets (made n 0 own) ≡ zeros (recordLength - sendsAt)
 unfolding joined
 lists-made n own = refl
 
@@ -101,45 +101,45 @@ parts-made : (t c v s o w : List ℕ) (a b d e f g : ℕ) → t ≡ o ++ zeros a
     → (t ++ (c ++ v)) ++ s ≡ o ++ (zeros f ++ (w ++ zeros g))
 parts-made t c v s o w a b d e f g et ec ev es ef eg = rw (et, ec, ev, es, zeros-split f a b ef, zeros-split g d e eg) (simp append-assoc refl)
 
-station-made : (n own : ℕ) → n ≤ 64 → stationOctets (made n 0 own) ≡ octets 1 own ++ (zeros 26 ++ (ones n ++ zeros (258 - n)))
+station-made : (n own : ℕ) → n ≤ 64 → stationOctets (made n 0 own) ≡ octets 1 own ++ (zeros (liveAt - stateAt) ++ (ones n ++ zeros (recordLength - liveAt - n)))
 station-made n own h =
-    parts-made (turnOctets own (made n 0 own .turn)) (countsOctets 0 0) (liveOctets (full n)) (listsOctets (made n 0 own)) (octets 1 own) (ones n) 18 8 (64 - n) 194 26 (258 - n)
+    parts-made (turnOctets own (made n 0 own .turn)) (countsOctets 0 0) (liveOctets (full n)) (listsOctets (made n 0 own)) (octets 1 own) (ones n) (lostAt - stateAt) (liveAt - lostAt) (64 - n) (recordLength - sendsAt) (liveAt - stateAt) (recordLength - liveAt - n)
     (turn-made n own) refl (live-made n h) (lists-made n own) refl (omega arith)
 
 -- ---- the writes one after the other
 
 module _ (l l₁ l₂ l₃ l₄ file : List ℕ) (n own : ℕ) (long : recordLength ≤ length l) (fits : length file ≤ ringRoom) (few : n ≤ 64) where
-  zeros-after : l₁ ≡ laid l 0 file → l₂ ≡ laid l₁ (length file) (zeros (recordLength - length file)) → l₂ ≡ laid l 0 (ringOctets file ++ (zeros 1 ++ zeros 284))
+  zeros-after : l₁ ≡ laid l 0 file → l₂ ≡ laid l₁ (length file) (zeros (recordLength - length file)) → l₂ ≡ laid l 0 (ringOctets file ++ (zeros 1 ++ zeros (recordLength - stateAt)))
   zeros-after p q =
       let m : ℕ = length file in
-      let e : zeros (recordLength - m) ≡ zeros (ringRoom - m) ++ (zeros 1 ++ zeros 284) =
-      zeros-split (recordLength - m) (ringRoom - m) 285 (omega arith) ∙ ap (λ (o : List ℕ). zeros (ringRoom - m) ++ o) (zeros-split 285 1 284 refl) in
+      let e : zeros (recordLength - m) ≡ zeros (ringRoom - m) ++ (zeros 1 ++ zeros (recordLength - stateAt)) =
+      zeros-split (recordLength - m) (ringRoom - m) (recordLength - ownAt) (omega arith) ∙ ap (λ (o : List ℕ). zeros (ringRoom - m) ++ o) (zeros-split (recordLength - ownAt) 1 (recordLength - stateAt) refl) in
       then-laid l l₁ l₂ file (zeros (recordLength - m)) 0 m (omega arith) (omega arith) p q
-      ∙ ap (laid l 0) (ap (λ (o : List ℕ). file ++ o) e ∙ sym (append-assoc file (zeros (ringRoom - m)) (zeros 1 ++ zeros 284)))
+      ∙ ap (laid l 0) (ap (λ (o : List ℕ). file ++ o) e ∙ sym (append-assoc file (zeros (ringRoom - m)) (zeros 1 ++ zeros (recordLength - stateAt))))
 
-  own-over : l₂ ≡ laid l 0 (ringOctets file ++ (zeros 1 ++ zeros 284)) → l₃ ≡ laid l₂ ownAt (octets 1 own)
-      → l₃ ≡ laid l 0 (ringOctets file ++ (octets 1 own ++ zeros 284))
+  own-over : l₂ ≡ laid l 0 (ringOctets file ++ (zeros 1 ++ zeros (recordLength - stateAt))) → l₃ ≡ laid l₂ ownAt (octets 1 own)
+      → l₃ ≡ laid l 0 (ringOctets file ++ (octets 1 own ++ zeros (recordLength - stateAt)))
   own-over p q =
-      laid-inside (zeros 1) (zeros 284) (octets 1 own) refl l l₂ l₃ (ringOctets file) 0 ownAt (omega (arith, length-ring file fits)) (omega arith) p q
+      laid-inside (zeros 1) (zeros (recordLength - stateAt)) (octets 1 own) refl l l₂ l₃ (ringOctets file) 0 ownAt (omega (arith, length-ring file fits)) (omega arith) p q
 
   abbrev before : List ℕ
-  before = ringOctets file ++ (octets 1 own ++ zeros 26)
+  before = ringOctets file ++ (octets 1 own ++ zeros (liveAt - stateAt))
 
   length-before : 0 + length before ≡ liveAt
-  length-before = omega (arith, length-append (ringOctets file) (octets 1 own ++ zeros 26), length-ring file fits)
+  length-before = omega (arith, length-append (ringOctets file) (octets 1 own ++ zeros (liveAt - stateAt)), length-ring file fits)
 
-  regroup : (w : List ℕ) → ringOctets file ++ (octets 1 own ++ (zeros 26 ++ w)) ≡ before ++ w
+  regroup : (w : List ℕ) → ringOctets file ++ (octets 1 own ++ (zeros (liveAt - stateAt) ++ w)) ≡ before ++ w
   regroup w = simp append-assoc refl
 
-  ones-over : l₃ ≡ laid l 0 (ringOctets file ++ (octets 1 own ++ zeros 284)) → l₄ ≡ laid l₃ liveAt (ones n) → l₄ ≡ laid l 0 (before ++ (ones n ++ zeros (258 - n)))
+  ones-over : l₃ ≡ laid l 0 (ringOctets file ++ (octets 1 own ++ zeros (recordLength - stateAt))) → l₄ ≡ laid l₃ liveAt (ones n) → l₄ ≡ laid l 0 (before ++ (ones n ++ zeros (recordLength - liveAt - n)))
   ones-over p q =
-      let e : zeros 284 ≡ zeros 26 ++ (zeros n ++ zeros (258 - n)) =
-      zeros-split 284 26 258 refl ∙ ap (λ (o : List ℕ). zeros 26 ++ o) (zeros-split 258 n (258 - n) (omega arith)) in
-      laid-inside (zeros n) (zeros (258 - n)) (ones n) (length-ones n ∙ sym (length-zeros n)) l l₃ l₄ before 0 liveAt length-before (omega arith)
-      (p ∙ ap (laid l 0) (ap (λ (o : List ℕ). ringOctets file ++ (octets 1 own ++ o)) e ∙ regroup (zeros n ++ zeros (258 - n)))) q
+      let e : zeros (recordLength - stateAt) ≡ zeros (liveAt - stateAt) ++ (zeros n ++ zeros (recordLength - liveAt - n)) =
+      zeros-split (recordLength - stateAt) (liveAt - stateAt) (recordLength - liveAt) refl ∙ ap (λ (o : List ℕ). zeros (liveAt - stateAt) ++ o) (zeros-split (recordLength - liveAt) n (recordLength - liveAt - n) (omega arith)) in
+      laid-inside (zeros n) (zeros (recordLength - liveAt - n)) (ones n) (length-ones n ∙ sym (length-zeros n)) l l₃ l₄ before 0 liveAt length-before (omega arith)
+      (p ∙ ap (laid l 0) (ap (λ (o : List ℕ). ringOctets file ++ (octets 1 own ++ o)) e ∙ regroup (zeros n ++ zeros (recordLength - liveAt - n)))) q
 
   pub record-made : l₁ ≡ laid l 0 file → l₂ ≡ laid l₁ (length file) (zeros (recordLength - length file)) → l₃ ≡ laid l₂ ownAt (octets 1 own) → l₄ ≡ laid l₃ liveAt (ones n)
       → l₄ ≡ laid l 0 (recordOctets file (made n 0 own))
   record-made p q r t =
       ones-over (own-over (zeros-after p q) r) t
-      ∙ ap (laid l 0) (sym (regroup (ones n ++ zeros (258 - n))) ∙ ap (λ (o : List ℕ). ringOctets file ++ o) (sym (station-made n own few)))
+      ∙ ap (laid l 0) (sym (regroup (ones n ++ zeros (recordLength - liveAt - n))) ∙ ap (λ (o : List ℕ). ringOctets file ++ o) (sym (station-made n own few)))

@@ -10,9 +10,7 @@ use lib.ListN.{length, take, drop, take-append-drop}
 use lib.Seq.{length-take-le}
 use Rattle.codec.specs.Bits.{bits}
 use Rattle.codec.specs.Octets.{laid}
-use Rattle.codec.specs.Ring.{count, limit, addressesOf, ringRefusal, filled, ringOf, noRing, readRing}
-use Rattle.codec.specs.declared.ring.Ring.{Ring}
-use Rattle.codec.specs.declared.ring.RingRead.{RingRead}
+use Rattle.codec.specs.Ring.{Ring, RingRead, count, limit, addressesOf, ringRefusal, filled, ringOf, noRing, readRing}
 use Rattle.codec.proofs.Laws.Bits.{bits-below}
 use Rattle.codec.proofs.Laws.Ring.{read-zero, read-good, read-refused, few-members, length-addresses, members-filled, members-laid}
 use Rattle.wholeness.specs.Whole.{restBlank, whole}

@@ -7,9 +7,8 @@ use borrow.Author.Needs.{needs}
 use borrow.Author.Tests.{ne-eqb}
 use lib.ListN.{length, take}
 use Rattle.codec.specs.Octets.{laid}
-use Rattle.codec.specs.Ring.{others, limit, count, addressesOf, ringRefusal, readRing, ringOf, filled}
+use Rattle.codec.specs.Ring.{RingRead, others, limit, count, addressesOf, ringRefusal, readRing, ringOf, filled}
 use Rattle.codec.specs.declared.head.HeadBits.{HeadBits}
-use Rattle.codec.specs.declared.ring.RingRead.{RingRead}
 use Rattle.codec.proofs.Laws.Bits.{bits-below}
 use Rattle.codec.proofs.Laws.Ring.{HeadGood, head-good, head-passed, read-refused, read-good, members-laid, members-filled, length-addresses}
 use Rattle.rtep.specs.Told.{toldRing}

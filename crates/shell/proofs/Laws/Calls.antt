@@ -9,8 +9,7 @@ use borrow.Author.Tests.{ne-eqb, eqb-true, ltb-false, not-false}
 use lib.ListN.{length, take, drop, length-take, length-append}
 use Rattle.codec.specs.Octets.{laid, zeros}
 use Rattle.packet_codec.specs.Packet.{kept}
-use Rattle.codec.specs.Ring.{count, addressesOf, ringOf, readRing}
-use Rattle.codec.specs.declared.ring.RingRead.{RingRead}
+use Rattle.codec.specs.Ring.{RingRead, count, addressesOf, ringOf, readRing}
 use Rattle.codec.proofs.Laws.Octets.{length-zeros}
 use Rattle.codec.proofs.Laws.Ring.{few-members, read-zero, read-good, length-addresses}
 use Rattle.parts.specs.Choose.{pick}

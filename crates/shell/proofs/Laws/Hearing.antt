@@ -2,14 +2,12 @@
 -- Assumes nothing.
 use mathlib.Core.Path.{_≡_, sym, ap, _∙_}
 use mathlib.Core.Bool.{false}
-use mathlib.Core.List.{List, []}
-use Prim.Native.Nat.{ℕ, _+_, _-_, _≤_, _<_}
-use native.Mathlib.Nat.{add-sub-cancel-left}
-use borrow.Author.Tests.{le-leb, lt-leb}
-use lib.ListN.{length, take, drop}
+use mathlib.Core.List.{List}
+use Prim.Native.Nat.{ℕ}
+use lib.ListN.{length, take}
 use Rattle.codec.specs.Octets.{laid}
 use Rattle.codec.specs.Ring.{position}
-use Rattle.packet_codec.specs.Packet.{readPacket}
+use Rattle.packet_codec.specs.Packet.{informationIn, readPacket}
 use Rattle.packet_codec.specs.declared.packet.Packet.{Packet}
 use Rattle.packet_codec.specs.declared.reading.Read.{Read}
 use Rattle.packet_codec.specs.declared.reading.Read.the-variants.{Refused, Good}
@@ -23,7 +21,6 @@ use Rattle.station.specs.declared.station.Station.{Station}
 use Rattle.station.specs.declared.station.Payload.{Payload}
 use Rattle.station.specs.declared.station.Payload.the-variants.{Of}
 use Rattle.station.specs.declared.station.Answer.{Answer}
-use Rattle.parts.proofs.Laws.Choose.{pick-true, pick-false}
 use Rattle.station.proofs.Laws.Moved.{moved-runs, moved-stops, unless-passes, unless-refuses}
 use Rattle.records.proofs.Laws.Load.{Held}
 use Rattle.shell.specs.Places.{received, informationOf}
@@ -65,16 +62,9 @@ module _ (s : Station) (ring : List ℕ) (from to : ℕ) (packet : List ℕ) {m 
 
 -- ---- the information of a heard frame whose message is stored
 
-module _ (packet : List ℕ) (p : Payload) (m : Message) (stored : p ≡ Of m) where
-  pub information-inside : 8 + m .length ≤ length packet → take (8 + m .length - 8) (drop 8 packet) ≡ heardInformation packet p
-  unfolding heardInformation
-  information-inside h =
-      ap (λ (n : ℕ). take n (drop 8 packet)) (add-sub-cancel-left 8 (m .length))
-      ∙ sym (pick-true _ _ (le-leb _ _ h)) ∙ ap (heardInformation packet) (sym stored)
-
-  pub information-past : length packet < 8 + m .length → [] ≡ heardInformation packet p
-  unfolding heardInformation
-  information-past h = sym (pick-false _ _ (lt-leb _ _ h)) ∙ ap (heardInformation packet) (sym stored)
+pub information-heard : (packet x : List ℕ) (p : Payload) (m : Message) → p ≡ Of m → x ≡ informationIn packet (m .length) → x ≡ heardInformation packet p
+unfolding heardInformation
+information-heard packet x p m stored e = e ∙ ap (heardInformation packet) (sym stored)
 
 -- ---- what the call leaves
 

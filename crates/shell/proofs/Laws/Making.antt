@@ -8,10 +8,8 @@ use borrow.Author.Tests.{eq-eqb, eqb-true, ne-eqb, lt-ltb, le-ltb}
 use lib.Dec.{eqb}
 use lib.ListN.{length, take}
 use Rattle.codec.specs.Octets.{laid}
-use Rattle.codec.specs.Ring.{count, addressesOf, position, isMember, ringRefusal, noRing, readRing}
+use Rattle.codec.specs.Ring.{Ring, RingRead, count, addressesOf, position, isMember, ringRefusal, noRing, readRing}
 use Rattle.codec.specs.Ring.{ringOf as ringIs}
-use Rattle.codec.specs.declared.ring.Ring.{Ring}
-use Rattle.codec.specs.declared.ring.RingRead.{RingRead}
 use Rattle.codec.proofs.Laws.Bits.{bits-below}
 use Rattle.codec.proofs.Laws.Ring.{HeadGood, head-good, head-passed, length-addresses, members-filled, members-laid, read-good}
 use Rattle.station.specs.Stations.{made}

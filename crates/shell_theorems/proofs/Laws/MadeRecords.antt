@@ -8,11 +8,9 @@ use lib.Dec.{eqb}
 use lib.ListN.{length, take, drop, length-append, length-take, drop-of-length-le}
 use borrow.Author.Tests.{eqb-true, eqb-false, not-false, not-true, ltb-true}
 use Rattle.codec.specs.Octets.{laid}
-use Rattle.codec.specs.Ring.{readRing, position, isMember, ringOf, count, others, limit}
-use Rattle.codec.specs.declared.ring.RingRead.{RingRead}
+use Rattle.codec.specs.Ring.{Ring, RingRead, readRing, position, isMember, ringOf, count, others, limit}
 use Rattle.codec.proofs.Laws.Bits.{bits-below}
 use Rattle.codec.proofs.Laws.Ring.{few-members, read-zero, read-good, head-passed, head-good}
-use Rattle.codec.specs.declared.ring.Ring.{Ring}
 use Rattle.station.specs.declared.station.Station.{Station}
 use Rattle.records.specs.Layout.{recordLength}
 use Rattle.records.specs.Record.{Loaded, stationOctets, ringOctets, recordOctets, fileOf, readRecord}

@@ -10,11 +10,9 @@ use lib.ListN.{length, take, drop, length-append}
 use borrow.Author.Tests.{eqb-true, eqb-false, not-false, ltb-true}
 use Rattle.codec.specs.Octets.{Octets, laid}
 use Rattle.packet_codec.specs.Packet.{kept, readPacket}
-use Rattle.codec.specs.Ring.{readRing, position, ringOf, count, limit, others}
+use Rattle.codec.specs.Ring.{Ring, RingRead, readRing, position, ringOf, count, limit, others}
 use Rattle.packet_codec.specs.declared.reading.Read.{Read}
 use Rattle.packet_codec.specs.declared.reading.Read.the-variants.{Refused, Good}
-use Rattle.codec.specs.declared.ring.Ring.{Ring}
-use Rattle.codec.specs.declared.ring.RingRead.{RingRead}
 use Rattle.parts.specs.declared.moves.Event.the-variants.{Heard}
 use Rattle.parts.specs.Frames.{fit}
 use Rattle.station.specs.Stations.{answered, moved, unless}

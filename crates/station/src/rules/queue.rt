@@ -1,6 +1,7 @@
 // Queue.
 ghost use mathlib.Core.Path.{_≡_};
 ghost use Prim.Native.Nat.{_≤_};
+ghost use Rattle.codec.specs.Sizes.{mostInformation};
 ghost use Rattle.station.specs.Queue.{queueNumber, joining, accepted, queueRule};
 use crate::station::Answer;
 use crate::station::Payload;
@@ -38,7 +39,7 @@ pub fn accept(s: Station, to: usize, priority: usize, channel: usize, length: us
     requires { ⌜ to ≤ 255 ⌝ }
     requires { ⌜ priority ≤ 255 ⌝ }
     requires { ⌜ channel ≤ 7 ⌝ }
-    requires { ⌜ length ≤ 1492 ⌝ }
+    requires { ⌜ length ≤ mostInformation ⌝ }
     ensures { λ r. ⌜ r ≡ accepted s to priority channel length ⌝ }
 {
     let place = parts::list::lowest_free(s.sends);

@@ -1,7 +1,8 @@
 //! The bench of document 01 in plain Rust, written from the page alone: the same script on standard
-//! input, the same lines on standard output. Its stations are those of `rtep::ring`.
+//! input, the same lines on standard output. Its stations are those of `rtep::yardstick`.
 
-use rtep::ring::{Frame, Kind, Ring};
+use rtep::yardstick::ring::Ring;
+use rtep::yardstick::station::record::Kind;
 use std::io::{self, BufRead, BufReader, Write};
 
 const BLOCK: usize = 1 << 16;
@@ -91,7 +92,7 @@ impl Session {
             (Some(Line::Ring(members @ 2..=64)), None) => {
                 let ring = Ring::start(members as u8);
                 self.out.text("no kind from to prio octets\n")?;
-                self.out.frame(&ring.wire)?;
+                self.out.frame(&ring)?;
                 self.ring = Some(ring);
                 Ok(())
             }
@@ -104,7 +105,7 @@ impl Session {
             (Some(Line::Step(count)), Some(ring)) => {
                 for _ in 0..count {
                     ring.step();
-                    self.out.frame(&ring.wire)?;
+                    self.out.frame(ring)?;
                 }
                 Ok(())
             }
@@ -152,19 +153,20 @@ impl Out {
         Ok(())
     }
 
-    fn frame(&mut self, frame: &Frame) -> io::Result<()> {
+    /// The frame on the wire.
+    fn frame(&mut self, ring: &Ring) -> io::Result<()> {
         self.make_room()?;
-        let kind = match frame.kind {
-            Kind::Token { .. } => b'T',
-            Kind::Transmit => b'G',
-            Kind::Information { .. } => b'I',
+        let (kind, priority, octets) = match ring.wire.kind {
+            Kind::Token { priority, .. } => (b'T', priority, 72),
+            Kind::Transmit { priority, .. } => (b'G', priority, 72),
+            Kind::Information(message) => (b'I', message.priority, (34 + message.length).max(72)),
         };
-        self.digits(frame.number);
+        self.digits(ring.wire.number);
         self.block.extend_from_slice(&[b' ', kind]);
-        self.number(frame.from.into());
-        self.number(frame.to.into());
-        self.number(frame.priority.into());
-        self.number(frame.octets());
+        self.number(ring.from.into());
+        self.number(ring.wire.to.into());
+        self.number(priority.into());
+        self.number(octets);
         self.block.push(b'\n');
         Ok(())
     }

@@ -1,4 +1,4 @@
-//! Times the proved station calls beside `rtep::station`, the same calls written in Rust by hand. Not
+//! Times the proved station calls beside `rtep::yardstick::station`, the same calls written in Rust by hand. Not
 //! a test: it refuses no time.
 //!
 //! Both sides keep the same record in a buffer, make the same checks, and get the same inputs. Each
@@ -8,7 +8,7 @@
 
 use rtep::model::{ring_file, Packet};
 use rtep::random::Random;
-use rtep::station::{self, MESSAGES, OUT, PLACE, RECORD, STORE};
+use rtep::yardstick::station::{self, MESSAGES, OUT, PLACE, RECORD, STORE};
 use std::hint::black_box;
 use std::time::Instant;
 

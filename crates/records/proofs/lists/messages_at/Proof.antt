@@ -1,6 +1,7 @@
 -- `lists::messages_at` meets its contract: the messages behind the list would be blank.
 use mathlib.Core.Path.{_≡_, refl, sym, ap, _∙_}
 use Prim.Native.Nat.{ℕ, _+_}
+use Rattle.records.specs.Layout.{itemsIn}
 use Rattle.records.specs.Fields.{firstItems}
 use Rattle.records.proofs.Laws.Rest.{rest-items}
 use borrow.Author.Needs.{needs}
@@ -23,7 +24,7 @@ returns : tie.Need-returns
 returns c =
     let a = c .before .before .before .before .args in
     let pre = c .before .before .before .before .pre in
-    let items = c .before .items-at .ensures ∙ ap (firstItems (a .s .now) (a .at + 1)) (c .before .before .count-at .ensures .0) ∙ rest-items (a .s .now) (a .at) (pre .0) (pre .1) in
+    let items = c .before .items-at .ensures ∙ ap (firstItems (a .s .now) (a .at + itemsIn)) (c .before .before .count-at .ensures .0) ∙ rest-items (a .s .now) (a .at) (pre .0) (pre .1) in
     rw (items, c .get .ensures .0)
 
 pub messages-at-spec : {M : Type 1} → statement M

@@ -9,6 +9,7 @@ use Rattle.codec.specs.Octets.{laid}
 use Rattle.codec.proofs.Laws.Octets.{laid-none}
 use Rattle.parts.specs.Messages.{blank}
 use Rattle.parts.proofs.Laws.Messages.{length-mapped}
+use Rattle.records.specs.Layout.{messageLength}
 use Rattle.records.specs.Tables.{joined}
 use Rattle.records.specs.Fields.{messageOctets}
 use Rattle.records.proofs.Laws.Tables.{joined-none, joined-more}
@@ -24,7 +25,7 @@ abbrev μ-loop : tie.MeasureT-loop
 loop-holds : tie.Need-loop-holds Inv-loop μ-loop
 loop-holds c =
     let a = c .before .args in
-    (omega arith, refl, sym (ap (laid (a .out .now) (a .at)) (joined-none messageOctets 6 (λ m. refl) (a .t3)) ∙ laid-none (a .out .now) (a .at)))
+    (omega arith, refl, sym (ap (laid (a .out .now) (a .at)) (joined-none messageOctets messageLength (λ m. refl) (a .t3)) ∙ laid-none (a .out .now) (a .at)))
 
 mul-m : tie.Need-mul-m Inv-loop μ-loop
 mul-m c = omega arith
@@ -52,7 +53,7 @@ loop-again c =
     let l = c .before .before .before .before .before .before .loop in
     let a = c .before .before .before .before .before .before .before .before .args in
     let h : length (a .t3) ≡ 16 = search length-mapped in
-    (omega arith, c .before .before .put-message .kept .0 ∙ l .inv .1, joined-more messageOctets 6 (λ m. refl) (a .out .now) (l .out) (c .before .before .put-message .last .0) (a .t3) (a .at) (a .at + l .i * 6) (l .i) blank refl (omega arith) (omega arith) (l .inv .2) (c .before .before .put-message .ensures))
+    (omega arith, c .before .before .put-message .kept .0 ∙ l .inv .1, joined-more messageOctets messageLength (λ m. refl) (a .out .now) (l .out) (c .before .before .put-message .last .0) (a .t3) (a .at) (a .at + l .i * messageLength) (l .i) blank refl (omega arith) (omega arith) (l .inv .2) (c .before .before .put-message .ensures))
 
 same-length : tie.Need-same-length Inv-loop μ-loop
 same-length c = c .before .loop .inv .1

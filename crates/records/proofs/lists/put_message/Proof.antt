@@ -5,6 +5,7 @@ use Prim.Native.Nat.{ℕ, _+_}
 use native.Mathlib.Omega.{arith}
 use Rattle.codec.specs.Octets.{octets}
 use Rattle.codec.proofs.Laws.Octets.{then-laid}
+use Rattle.records.specs.Layout.{messagePlaceIn}
 use borrow.Author.Needs.{needs}
 use Rattle.records.proofs.lists.put_message.Statement.{statement}
 use Rattle.records.proofs.lists.put_message.Tie as tie
@@ -40,7 +41,7 @@ returns : tie.Need-returns
 returns c =
     let a = c .before .before .before .before .before .before .before .before .before .before .before .before .before .before .args in
     let m = a .m in
-    then-laid (a .out .now) _ _ (octets 1 (m .other) ++ (octets 1 (m .priority) ++ octets 1 (m .channel))) (octets 1 (m .place) ++ octets 2 (m .length)) (a .at) (a .at + 3) refl (omega (arith, c .before .before .before .before .before .before .before .before .before .before .before .before .before .before .pre)) (c .before .before .before .before .before .before .before .before .put-three .ensures) (c .before .before .put-two .ensures)
+    then-laid (a .out .now) _ _ (octets 1 (m .other) ++ (octets 1 (m .priority) ++ octets 1 (m .channel))) (octets 1 (m .place) ++ octets 2 (m .length)) (a .at) (a .at + messagePlaceIn) refl (omega (arith, c .before .before .before .before .before .before .before .before .before .before .before .before .before .before .pre)) (c .before .before .before .before .before .before .before .before .put-three .ensures) (c .before .before .put-two .ensures)
 
 pub put-message-spec : {M : Type 1} → statement M
 put-message-spec =

@@ -4,6 +4,7 @@ use Prim.Native.Nat.{ℕ, _+_}
 use native.Mathlib.Omega.{arith}
 use Rattle.codec.specs.Octets.{octets}
 use Rattle.codec.proofs.Laws.Octets.{then-laid}
+use Rattle.records.specs.Layout.{itemsIn}
 use Rattle.records.specs.Fields.{itemsOctets}
 use borrow.Author.Needs.{needs}
 use Rattle.records.proofs.lists.put_messages.Statement.{statement}
@@ -24,7 +25,7 @@ same-length c = search needs
 returns : tie.Need-returns
 returns c =
     let a = c .before .before .before .before .before .before .before .before .before .before .args in
-    then-laid (a .out .now) _ _ (octets 1 (a .l .len)) (itemsOctets (a .l .items)) (a .at) (a .at + 1) refl (omega (arith, c .before .before .before .before .before .before .before .before .before .before .pre)) (c .before .before .before .before .before .before .before .put .ensures) (c .before .before .put-items .ensures)
+    then-laid (a .out .now) _ _ (octets 1 (a .l .len)) (itemsOctets (a .l .items)) (a .at) (a .at + itemsIn) refl (omega (arith, c .before .before .before .before .before .before .before .before .before .before .pre)) (c .before .before .before .before .before .before .before .put .ensures) (c .before .before .put-items .ensures)
 
 pub put-messages-spec : {M : Type 1} → statement M
 put-messages-spec =

@@ -1,13 +1,11 @@
 -- `record::save` meets its contract: its writes, side by side, are one.
 use mathlib.Core.Path.{_≡_, refl, sym, ap, _∙_}
-use mathlib.Core.List.{_++_}
 use Prim.Native.Nat.{ℕ, _+_}
 use native.Mathlib.Omega.{arith}
 use lib.ListN.{length}
 use Rattle.codec.proofs.Laws.Octets.{then-laid}
 use Rattle.records.specs.Layout.{ownAt, sendsAt}
-use Rattle.records.specs.Fields.{turnOctets, liveOctets}
-use Rattle.records.specs.Record.{countsOctets, listsOctets}
+use Rattle.records.specs.Record.{headOctets, listsOctets}
 use Rattle.records.proofs.Laws.Sizes.{length-head}
 use borrow.Author.Needs.{needs}
 use Rattle.records.proofs.record.save.Statement.{statement}
@@ -27,7 +25,7 @@ returns c =
     let a = c .before .before .before .before .before .before .before .before .before .args in
     let s = a .s in
     let h : length (s .live .on) ≡ 64 = search needs in
-    then-laid (a .out .now) _ _ (turnOctets (s .own) (s .turn) ++ (countsOctets (s .lost) (s .givenup) ++ liveOctets (s .live))) (listsOctets s) ownAt sendsAt (ap (λ (n : ℕ). ownAt + n) (length-head (s .own) (s .turn) (s .lost) (s .givenup) (s .live) h)) (omega (arith, c .before .before .before .before .before .before .before .before .before .pre)) (c .before .before .before .before .before .before .put-head .ensures) (c .before .before .put-lists .ensures)
+    then-laid (a .out .now) _ _ (headOctets s) (listsOctets s) ownAt sendsAt (ap (λ (n : ℕ). ownAt + n) (length-head s h)) (omega (arith, c .before .before .before .before .before .before .before .before .before .pre)) (c .before .before .before .before .before .before .put-head .ensures) (c .before .before .put-lists .ensures)
 
 pub save-spec : {M : Type 1} → statement M
 save-spec = tie.close (tie.spec put-head-requires put-lists-requires same-length returns)

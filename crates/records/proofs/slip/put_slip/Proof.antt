@@ -1,8 +1,9 @@
 -- `slip::put_slip` meets its contract: its writes, side by side, are one.
 use mathlib.Core.Path.{_≡_, refl, sym, ap, _∙_}
-use Prim.Native.Nat.{ℕ, _+_}
+use Prim.Native.Nat.{ℕ, _+_, _-_}
 use native.Mathlib.Omega.{arith}
 use Rattle.codec.proofs.Laws.Octets.{laid-three}
+use Rattle.records.specs.Layout.{masterIn, channelIn}
 use Rattle.records.specs.Fields.{slipStart, slipStations, slipMessage}
 use borrow.Author.Needs.{needs}
 use Rattle.records.proofs.slip.put_slip.Statement.{statement}
@@ -48,8 +49,8 @@ returns : tie.Need-returns
 returns c =
     let a = c .before .before .before .before .before .before .before .before .before .before .before .before .before .before .before .before .before .before .before .args in
     let p = a .p in
-    let e : a .at + 5 + 4 ≡ a .at + 9 = omega arith in
-    laid-three (a .out .now) _ _ _ (slipStart p) (slipStations p) (slipMessage p) (a .at) (a .at + 5) (a .at + 9) refl e (omega (arith, c .before .before .before .before .before .before .before .before .before .before .before .before .before .before .before .before .before .before .before .pre)) (c .before .before .before .before .before .before .before .before .before .before .before .before .before .before .before .before .put-start .ensures) (c .before .before .before .before .before .before .before .before .before .put-three .ensures) (c .before .before .put-three2 .ensures)
+    let e : a .at + masterIn + (channelIn - masterIn) ≡ a .at + channelIn = omega arith in
+    laid-three (a .out .now) _ _ _ (slipStart p) (slipStations p) (slipMessage p) (a .at) (a .at + masterIn) (a .at + channelIn) refl e (omega (arith, c .before .before .before .before .before .before .before .before .before .before .before .before .before .before .before .before .before .before .before .pre)) (c .before .before .before .before .before .before .before .before .before .before .before .before .before .before .before .before .put-start .ensures) (c .before .before .before .before .before .before .before .before .before .put-three .ensures) (c .before .before .put-three2 .ensures)
 
 pub put-slip-spec : {M : Type 1} → statement M
 put-slip-spec =

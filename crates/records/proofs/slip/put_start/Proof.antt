@@ -5,6 +5,7 @@ use Prim.Native.Nat.{ℕ, _+_}
 use native.Mathlib.Omega.{arith}
 use Rattle.codec.specs.Octets.{octets}
 use Rattle.codec.proofs.Laws.Octets.{then-laid}
+use Rattle.records.specs.Layout.{numberIn}
 use borrow.Author.Needs.{needs}
 use Rattle.records.proofs.slip.put_start.Statement.{statement}
 use Rattle.records.proofs.slip.put_start.Tie as tie
@@ -37,7 +38,7 @@ returns : tie.Need-returns
 returns c =
     let a = c .before .before .before .before .before .before .before .before .before .before .before .before .before .args in
     let p = a .p in
-    then-laid (a .out .now) _ _ (octets 1 (p .kind) ++ octets 1 (p .to)) (octets 2 (p .number) ++ octets 1 (p .priority)) (a .at) (a .at + 2) refl (omega (arith, c .before .before .before .before .before .before .before .before .before .before .before .before .before .pre)) (c .before .before .before .before .before .before .before .before .put-two .ensures) (c .before .before .put-two2 .ensures)
+    then-laid (a .out .now) _ _ (octets 1 (p .kind) ++ octets 1 (p .to)) (octets 2 (p .number) ++ octets 1 (p .priority)) (a .at) (a .at + numberIn) refl (omega (arith, c .before .before .before .before .before .before .before .before .before .before .before .before .before .pre)) (c .before .before .before .before .before .before .before .before .put-two .ensures) (c .before .before .put-two2 .ensures)
 
 pub put-start-spec : {M : Type 1} → statement M
 put-start-spec =

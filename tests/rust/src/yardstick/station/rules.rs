@@ -1,8 +1,11 @@
 //! The rules: what a station does and tells.
 
-use super::packet::{Heard, HeardKind};
 use super::record::{Frame, Kind, List, Message, State, Station};
 use super::MESSAGES;
+use crate::yardstick::codec::Packet;
+
+/// A packet that was heard.
+pub type Heard = Packet<u8, Option<u8>>;
 
 /// What a call sends and tells, and the received message whose payload goes into the store.
 pub struct Answer {
@@ -115,15 +118,22 @@ impl Station {
         answer
     }
 
+    /// Whether a frame passes it by: one to another, with nobody failing, while it waits for nothing.
+    #[inline]
+    pub fn is_bystander(&self, to: u8, heard: &Heard) -> bool {
+        let fails = matches!(heard, Heard::Token { failing: Some(_), .. });
+        to != self.own && !fails && self.awaited.is_none()
+    }
+
     pub fn frame(&mut self, from: u8, to: u8, heard: &Heard) -> Answer {
         let mut answer = Answer::nothing();
         if let Some(frame) = self.awaited {
-            if from == frame.to && heard.number == frame.number.wrapping_add(1) {
+            if from == frame.to && heard.number() == frame.number.wrapping_add(1) {
                 self.state = State::Idle;
                 self.land();
             }
         }
-        if let HeardKind::Token { failing: Some(failing), .. } = heard.kind {
+        if let Heard::Token { failing: Some(failing), .. } = *heard {
             self.strike(failing, &mut answer);
             if failing == self.own {
                 self.stop(State::Excluded, &mut answer);
@@ -136,13 +146,13 @@ impl Station {
             }
             self.count_given_up(&answer);
         }
-        if to != self.own || self.handled == Some(heard.number) || self.state == State::Waiting {
+        if to != self.own || self.handled == Some(heard.number()) || self.state == State::Waiting {
             return answer;
         }
-        self.handled = Some(heard.number);
-        let number = heard.number.wrapping_add(1);
-        let frame = match heard.kind {
-            HeardKind::Token { priority, master, named, .. } if master == self.own => {
+        self.handled = Some(heard.number());
+        let number = heard.number().wrapping_add(1);
+        let frame = match *heard {
+            Heard::Token { priority, master, named, .. } if master == self.own => {
                 if priority == 0 {
                     self.round(number, None)
                 } else if named == self.own {
@@ -154,7 +164,7 @@ impl Station {
                     self.round(number, None)
                 }
             }
-            HeardKind::Token { priority, master, failing, named } => {
+            Heard::Token { priority, master, failing, named, .. } => {
                 if self.is_live(master) {
                     let own = (self.head_priority(), self.own);
                     let mut bid = (priority, named);
@@ -167,8 +177,8 @@ impl Station {
                     self.round(number, None)
                 }
             }
-            HeardKind::Transmit => self.send_head(number),
-            HeardKind::Information { priority, channel, length } => {
+            Heard::Transmit { .. } => self.send_head(number),
+            Heard::Information { priority, channel, length, .. } => {
                 if self.receive.messages().len() < MESSAGES {
                     let place = self.receive.join(from, priority, channel, length);
                     answer.stored = Some(Message { other: from, priority, channel, place, length });

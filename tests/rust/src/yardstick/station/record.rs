@@ -1,6 +1,7 @@
 //! The record: its octets read into a station, which is checked whole, and written back.
 
 use super::{MESSAGES, PLACE, RECORD};
+use crate::yardstick::codec::Ring;
 
 // Where the fields lie.
 const RING: usize = 386;
@@ -20,63 +21,6 @@ const ZEROS: [u8; RING] = [0; RING];
 
 fn zero(octets: &[u8]) -> bool {
     *octets == ZEROS[..octets.len()]
-}
-
-/// A good ring.
-pub struct Ring {
-    pub members: usize,
-    pub retry_limit: u8,
-    /// In ring order, then zeros.
-    pub addresses: [u64; 64],
-}
-
-impl Ring {
-    /// Reads a ring file, or gives the number of the first thing wrong with it.
-    pub fn read(file: &[u8]) -> Result<Ring, u32> {
-        let (heading, rest) = file.split_first_chunk::<2>().ok_or(1u32)?;
-        let heading = u16::from_be_bytes(*heading);
-        let members = usize::from(heading >> 6 & 63) + 1;
-        let retry_limit = (heading >> 2 & 15) as u8;
-        if heading >> 12 != 1 {
-            return Err(2);
-        }
-        if heading & 3 != 0 {
-            return Err(3);
-        }
-        if members == 1 {
-            return Err(4);
-        }
-        if retry_limit == 0 {
-            return Err(5);
-        }
-        if rest.len() != 6 * members {
-            return Err(1);
-        }
-        let mut addresses = [0; 64];
-        for (place, octets) in rest.as_chunks::<6>().0.iter().enumerate() {
-            let address = address(octets);
-            if address == 0 || octets[0] & 1 == 1 {
-                return Err(6);
-            }
-            if addresses[..place].contains(&address) {
-                return Err(7);
-            }
-            addresses[place] = address;
-        }
-        Ok(Ring { members, retry_limit, addresses })
-    }
-
-    /// The position of the member with this address.
-    pub fn position(&self, address: u64) -> Option<u8> {
-        let found = self.addresses[..self.members].iter().position(|next| *next == address);
-        found.map(|position| position as u8)
-    }
-}
-
-/// The number of six octets.
-pub fn address(octets: &[u8; 6]) -> u64 {
-    let [a, b, c, d, e, f] = *octets;
-    u64::from_be_bytes([0, 0, a, b, c, d, e, f])
 }
 
 #[derive(Clone, Copy, PartialEq, Eq)]
@@ -291,18 +235,20 @@ impl Frame {
     }
 }
 
+/// What every frame is held against stands first, in one line of the cache.
+#[repr(C)]
 pub struct Station {
-    pub ring: Ring,
     pub own: u8,
     pub state: State,
     pub retries: u8,
     pub handled: Option<u16>,
     pub awaited: Option<Frame>,
+    pub live: [bool; 64],
     pub lost: u32,
     pub given_up: u32,
-    pub live: [bool; 64],
     pub send: List,
     pub receive: List,
+    pub ring: Ring,
 }
 
 /// Writes the record of a station that is made.
@@ -314,6 +260,25 @@ pub fn make(record: &mut [u8; RECORD], file: &[u8], own: u8, members: usize) {
 }
 
 impl Station {
+    /// A station that is made.
+    pub fn new(ring: Ring, own: u8) -> Station {
+        let mut live = [false; 64];
+        live[..ring.members].fill(true);
+        Station {
+            ring,
+            own,
+            state: State::Offline,
+            retries: 0,
+            handled: None,
+            awaited: None,
+            lost: 0,
+            given_up: 0,
+            live,
+            send: List::new(),
+            receive: List::new(),
+        }
+    }
+
     /// The station of a record, if it is whole.
     pub fn read(record: &mut [u8]) -> Option<(&mut [u8; RECORD], Station)> {
         let record: &mut [u8; RECORD] = record.try_into().ok()?;

@@ -1,15 +1,12 @@
-//! Document 01's station, read from the page alone: the six calls over the same record, the same
-//! store and the same numbers as the proved ones.
-//!
-//! It is what the tests hold the proved calls to and what the benchmark times them beside, so it
-//! is written as one writes it in Rust by hand, to be fast: a record is read into a struct (and
-//! checked whole), the rule runs, and the part of the record that can change is written back.
+//! The station's six calls over the same record, the same store and the same numbers as the proved
+//! ones: a record is read into a struct (and checked whole), the rule runs, and the part of the record
+//! that can change is written back.
 
-mod packet;
-mod record;
-mod rules;
+pub mod record;
+pub mod rules;
 
-use record::{Ring, State, Station};
+use super::codec::{self, Packet, Ring};
+use record::{Frame, Kind, State, Station};
 use rules::Answer;
 
 /// Octets of a record.
@@ -17,9 +14,9 @@ pub const RECORD: usize = 671;
 /// Octets of a store: 16 send places, then 16 receive places.
 pub const STORE: usize = 2 * MESSAGES * PLACE;
 /// Octets of a place.
-pub const PLACE: usize = 1492;
+pub const PLACE: usize = codec::MOST_INFORMATION;
 /// The fewest octets of an out buffer.
-pub const OUT: usize = 1500;
+pub const OUT: usize = codec::LONGEST;
 /// Messages of a list at the most.
 pub const MESSAGES: usize = 16;
 
@@ -42,11 +39,33 @@ fn receive_place(place: u8, length: u16) -> std::ops::Range<usize> {
     at..at + usize::from(length)
 }
 
+/// Writes a frame's packet to the start of `out`, which has room, and gives its octets.
+fn write(ring: &Ring, frame: &Frame, store: &[u8], out: &mut [u8]) -> usize {
+    let address = |position: u8| ring.addresses[usize::from(position)];
+    let number = frame.number;
+    let (packet, information) = match frame.kind {
+        Kind::Token { priority, master, failing, named } => {
+            let failing = failing.map_or(0, address);
+            let (master, named) = (address(master), address(named));
+            (Packet::Token { priority, number, master, failing, named }, &[][..])
+        }
+        Kind::Transmit { priority, master, named } => {
+            let (master, named) = (address(master), address(named));
+            (Packet::Transmit { priority, number, master, named }, &[][..])
+        }
+        Kind::Information(record::Message { priority, channel, place, length, .. }) => {
+            let information = &store[send_place(place, length)];
+            (Packet::Information { priority, number, channel, length }, information)
+        }
+    };
+    codec::write(packet, information, out)
+}
+
 /// Writes what a call tells, and the packet that it sends.
 fn tell(ring: &Ring, answer: &Answer, store: &[u8], out: &mut [u8], told: &mut [u64; 84]) {
     (told[0], told[1]) = match &answer.frame {
         Some(frame) => {
-            (packet::write(ring, frame, store, out) as u64, ring.addresses[usize::from(frame.to)])
+            (write(ring, frame, store, out) as u64, ring.addresses[usize::from(frame.to)])
         }
         None => (0, 0),
     };
@@ -114,11 +133,15 @@ pub fn frame(
         if from == to || from == station.own || !station.live[usize::from(from)] {
             return Err(13);
         }
-        let heard = packet::read(&station.ring, packet)?;
+        let member = |address| station.ring.position(address);
+        let heard = codec::read(packet, member, |address| match address {
+            0 => Some(None),
+            address => member(address).map(Some),
+        })?;
         let answer = station.frame(from, to, &heard);
         if let Some(message) = answer.stored {
             store[receive_place(message.place, message.length)]
-                .copy_from_slice(packet::information(packet, message.length));
+                .copy_from_slice(codec::information(packet, message.length));
         }
         station.write(record);
         tell(&station.ring, &answer, store, out, told);
