@@ -5,6 +5,7 @@ use lib.Dec.{leb}
 use lib.ListN.{set}
 use Rattle.parts.specs.Choose.{pick}
 use Rattle.parts.specs.Live.{seats}
+use Rattle.parts.specs.declared.request.Request.{Request}
 use Rattle.station.specs.Queue.{queueRule}
 use Rattle.station.specs.declared.station.Station.{Station}
 use Rattle.station.specs.declared.station.Answer.{Answer}
@@ -21,8 +22,8 @@ abbrev pub queueAt : Bench → ℕ → Answer → Queued
 queueAt b from a = record { bench = withStation b from (a .station); number = a .number }
 
 -- "a FROM outside the ring" is 15, "checked first"
-unfoldable pub queue : Bench → ℕ → ℕ → ℕ → ℕ → ℕ → Queued
-queue b from to priority channel length =
+unfoldable pub queue : Bench → ℕ → Request → Queued
+queue b from q =
     pick (leb (seats (b .n)) from)
     (record { bench = b; number = 15 })
-    (queueAt b from (queueRule (stationAt b from) to priority channel length))
+    (queueAt b from (queueRule (stationAt b from) q))

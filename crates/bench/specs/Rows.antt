@@ -16,14 +16,14 @@ use Rattle.bench.specs.declared.rows.Kind.the-variants.{T, G, I}
 use Rattle.bench.specs.declared.rows.Row.{Row}
 
 abbrev pub kindOf : Frame → Kind
-kindOf (Token number priority master failing named) = T
-kindOf (Transmit number priority master named) = G
-kindOf (Information number priority channel length place) = I
+kindOf (Token t) = T
+kindOf (Transmit t) = G
+kindOf (Information i) = I
 
 abbrev pub priorityIn : Frame → ℕ
-priorityIn (Token number priority master failing named) = priority
-priorityIn (Transmit number priority master named) = priority
-priorityIn (Information number priority channel length place) = priority
+priorityIn (Token t) = t .priority
+priorityIn (Transmit t) = t .priority
+priorityIn (Information i) = i .priority
 
 -- "member i, from 0, has address i+1"; an address of 0 means no station
 abbrev pub addressOf : ℕ → ℕ
@@ -35,10 +35,10 @@ addressOrNone (Member p) = addressOf p
 
 -- the packet that the codec writes for a frame
 abbrev pub packetOf : Frame → Packet
-packetOf (Token number priority master failing named) =
-    token priority number (addressOf master) (addressOrNone failing) (addressOf named)
-packetOf (Transmit number priority master named) = transmit priority number (addressOf master) (addressOf named)
-packetOf (Information number priority channel length place) = information priority number channel length
+packetOf (Token t) =
+    token (t .priority) (t .number) (addressOf (t .master)) (addressOrNone (t .failing)) (addressOf (t .named))
+packetOf (Transmit t) = transmit (t .priority) (t .number) (addressOf (t .master)) (addressOf (t .named))
+packetOf (Information i) = information (i .priority) (i .number) (i .channel) (i .length)
 
 -- its octets on the wire, by the codec's law
 abbrev pub octetsOf : Frame → ℕ

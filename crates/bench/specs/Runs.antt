@@ -1,25 +1,26 @@
 -- Runs: steps and queue calls, and the frames that they compose.
 use mathlib.Core.List.{List, [], _∷_, _++_}
 use Prim.Native.Nat.{ℕ, zero, suc}
+use Rattle.parts.specs.declared.request.Request.{Request}
 use Rattle.bench.specs.Delivery.{step}
 use Rattle.bench.specs.Calls.{queue}
 use Rattle.bench.specs.Rows.{rowsOn}
 use Rattle.bench.specs.declared.ring.Bench.{Bench}
 use Rattle.bench.specs.declared.rows.Row.{Row}
 
--- what happens on the bench: a step, or a queue call with FROM, TO, PRIORITY, CHANNEL and LENGTH
+-- what happens on the bench: a step, or a queue call with FROM and what it asks for
 pub data Event : Type 0 where
   stepped : Event
-  queued : ℕ → ℕ → ℕ → ℕ → ℕ → Event
+  queued : ℕ → Request → Event
 
 unfoldable pub afterEvent : Bench → Event → Bench
 afterEvent b stepped = step b
-afterEvent b (queued from to priority channel length) = queue b from to priority channel length .bench
+afterEvent b (queued from q) = queue b from q .bench
 
 -- the frame that an event composes: a step's is the one that it puts on the wire; a queue call composes none
 unfoldable pub composed : Bench → Event → List Row
 composed b stepped = rowsOn (step b .wire)
-composed b (queued from to priority channel length) = []
+composed b (queued from q) = []
 
 -- the bench after a run
 unfoldable pub final : Bench → List Event → Bench

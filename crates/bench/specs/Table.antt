@@ -8,7 +8,10 @@ use Rattle.parts.specs.Choose.{pick}
 use Rattle.parts.specs.Live.{seats}
 use Rattle.parts.specs.declared.frame.Dispatch.{Dispatch}
 use Rattle.parts.specs.declared.frame.Dispatch.the-variants.{Nothing, Sent}
+use Rattle.parts.specs.declared.frame.Frame.{Frame}
 use Rattle.parts.specs.declared.frame.Frame.the-variants.{Transmit}
+use Rattle.parts.specs.declared.request.Request.{Request}
+use Rattle.plain_rules.specs.Round.{granting}
 use Rattle.station.specs.Queue.{queueRule}
 use Rattle.station.specs.declared.station.Answer.{Answer}
 use Rattle.station.specs.declared.station.Station.{Station}
@@ -45,8 +48,12 @@ touchedIn (suc k) ss h p = pick (staysAt ss h p) (touchedIn k ss h (suc p)) p
 abbrev pub benchIn : Going → List Station → Bench
 benchIn g ss = record { n = g .n; stations = ss; wire = g .wire }
 
+-- where nothing is on the wire
+abbrev pub noFrame : Frame
+noFrame = Transmit (granting 0 0 0 0)
+
 abbrev pub handingBy : Going → Dispatch → Handing
-handingBy g Nothing = record { n = g .n; m = seats (g .n); frame = Transmit 0 0 0 0; quiet = true; from = 0; to = 0 }
+handingBy g Nothing = record { n = g .n; m = seats (g .n); frame = noFrame; quiet = true; from = 0; to = 0 }
 handingBy g (Sent frame to) =
     record { n = g .n; m = seats (g .n); frame = frame; quiet = isQuiet frame; from = g .wire .from; to = to }
 
@@ -96,5 +103,5 @@ abbrev pub answeredAt : List Station → ℕ → Answer → QueuedIn
 answeredAt ss p a = record { stations = set ss p (a .station); number = a .number }
 
 -- a queue call of the station at the position `from`
-abbrev pub queuedIn : List Station → ℕ → ℕ → ℕ → ℕ → ℕ → QueuedIn
-queuedIn ss from to priority channel length = answeredAt ss from (queueRule (getD ss from nobody) to priority channel length)
+abbrev pub queuedIn : List Station → ℕ → Request → QueuedIn
+queuedIn ss from q = answeredAt ss from (queueRule (getD ss from nobody) q)

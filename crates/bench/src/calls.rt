@@ -2,6 +2,7 @@
 ghost use mathlib.Core.Path.{_≡_};
 ghost use Rattle.bench.specs.Calls.{queue};
 use crate::ring::Bench;
+use parts::request::Request;
 
 // The bench after a queue call, and the call's number.
 pub struct Queued {
@@ -10,16 +11,9 @@ pub struct Queued {
 }
 
 impl Bench {
-    // A message of `length` octets from the member `from` to the member `to`.
-    pub fn queue(
-        self,
-        from: usize,
-        to: usize,
-        priority: usize,
-        channel: usize,
-        length: usize,
-    ) -> Queued
-        ensures { λ r. ⌜ r ≡ queue self from to priority channel length ⌝ }
+    // The member `from` is handed a message.
+    pub fn queue(self, from: usize, q: Request) -> Queued
+        ensures { λ r. ⌜ r ≡ queue self from q ⌝ }
     {
         let m = parts::live::seats_of(self.n);
         if m <= from {
@@ -29,13 +23,13 @@ impl Bench {
             };
         }
         let before = self.stations;
-        let q = crate::table::queue_in(before, from, to, priority, channel, length);
-        let after = q.stations;
+        let r = crate::table::queue_in(before, from, q);
+        let after = r.stations;
         let mut bench = self;
         bench.stations = after;
         Queued {
             bench,
-            number: q.number,
+            number: r.number,
         }
     }
 }

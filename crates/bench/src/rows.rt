@@ -25,26 +25,9 @@ pub fn kind_of(f: Frame) -> Kind
     ensures { λ r. ⌜ r ≡ kindOf f ⌝ }
 {
     match f {
-        Frame::Token {
-            number: _,
-            priority: _,
-            master: _,
-            failing: _,
-            named: _,
-        } => Kind::T,
-        Frame::Transmit {
-            number: _,
-            priority: _,
-            master: _,
-            named: _,
-        } => Kind::G,
-        Frame::Information {
-            number: _,
-            priority: _,
-            channel: _,
-            length: _,
-            place: _,
-        } => Kind::I,
+        Frame::Token(_) => Kind::T,
+        Frame::Transmit(_) => Kind::G,
+        Frame::Information(_) => Kind::I,
     }
 }
 
@@ -52,26 +35,9 @@ pub fn priority_in(f: Frame) -> u8
     ensures { λ r. ⌜ r ≡ priorityIn f ⌝ }
 {
     match f {
-        Frame::Token {
-            number: _,
-            priority,
-            master: _,
-            failing: _,
-            named: _,
-        } => priority,
-        Frame::Transmit {
-            number: _,
-            priority,
-            master: _,
-            named: _,
-        } => priority,
-        Frame::Information {
-            number: _,
-            priority,
-            channel: _,
-            length: _,
-            place: _,
-        } => priority,
+        Frame::Token(t) => t.priority,
+        Frame::Transmit(t) => t.priority,
+        Frame::Information(i) => i.priority,
     }
 }
 
@@ -96,35 +62,21 @@ pub fn packet_of(f: Frame) -> Packet
     ensures { λ r. ⌜ r ≡ packetOf f ⌝ }
 {
     match f {
-        Frame::Token {
-            number,
-            priority,
-            master,
-            failing,
-            named,
-        } => {
-            let m = address_of(master);
+        Frame::Token(t) => {
+            let failing = t.failing;
+            let m = address_of(t.master);
             let x = address_or_none(failing);
-            let d = address_of(named);
-            Packet::token(priority, number, m, x, d)
+            let d = address_of(t.named);
+            Packet::token(t.priority, t.number, m, x, d)
         }
-        Frame::Transmit {
-            number,
-            priority,
-            master,
-            named,
-        } => {
-            let m = address_of(master);
-            let d = address_of(named);
-            Packet::transmit(priority, number, m, d)
+        Frame::Transmit(t) => {
+            let m = address_of(t.master);
+            let d = address_of(t.named);
+            Packet::transmit(t.priority, t.number, m, d)
         }
-        Frame::Information {
-            number,
-            priority,
-            channel,
-            length,
-            place: _,
-        } => Packet::information(priority, number, channel as u16, length),
+        Frame::Information(i) => {
+            Packet::information(i.priority, i.number, i.channel as u16, i.length)
+        }
     }
 }
 

@@ -2,12 +2,12 @@
 ghost use mathlib.Core.Path.{_≡_};
 ghost use mathlib.Core.Bool.{true};
 ghost use Prim.Native.Nat.{_+_, _*_, _-_, _<_, _≤_};
-ghost use lib.ListN.{length, length as count, getD, set};
+ghost use lib.ListN.{length, getD, set};
 ghost use Rattle.codec.specs.Octets.{laid};
 ghost use Rattle.parts.specs.Live.{seats};
 ghost use Rattle.station.specs.Stations.{withTurn};
 ghost use Rattle.station.specs.Heard.{frameRule};
-ghost use Rattle.station.specs.Light.{lightRule};
+ghost use Rattle.station.specs.Decide.{turnedBy};
 ghost use Rattle.station.specs.Queue.{queueRule};
 ghost use Rattle.bench.specs.Ring.{nobody};
 ghost use Rattle.bench.specs.Delivery.{isQuiet, handed, delivered, steps};
@@ -16,7 +16,9 @@ ghost use Rattle.bench.specs.Table.{hears, staysAt, touchedIn, handingOf
 use crate::ring::Wire;
 use parts::frame::Dispatch;
 use parts::frame::Frame;
-use station::rules::light::Light;
+use parts::frame::TransmitFrame;
+use parts::request::Request;
+use station::rules::deeds::Turned;
 use station::station::Station;
 use station::station::Turn;
 
@@ -76,13 +78,13 @@ pub fn touched_from(table: &[Station], p: usize, h: Handing) -> usize
     q
 }
 
-// What a frame does to the turn of the station at `p`, where it does nothing else.
-pub fn light_at(table: &[Station], p: usize, frame: Frame, from: u8, to: u8) -> Light
+// What a frame does to the turn of the station at `p`, and whether it does nothing else.
+pub fn turned_at(table: &[Station], p: usize, frame: Frame, from: u8, to: u8) -> Turned
     requires { ⌜ p < length (now table) ⌝ }
-    ensures { λ r. ⌜ r ≡ lightRule (getD (now (table .entry)) p nobody) frame from to ⌝ }
+    ensures { λ r. ⌜ r ≡ turnedBy (getD (now (table .entry)) p nobody) frame from to ⌝ }
 {
     let s = table[p];
-    s.lightly(frame, from, to)
+    s.turns(frame, from, to)
 }
 
 // The turn of the station at `p`.
@@ -111,10 +113,10 @@ pub fn hear_at(table: &mut [Station], p: usize, frame: Frame, from: u8, to: u8) 
     ensures { λ r. ⌜ (r ≡ frameRule (getD (now (table .entry)) p nobody) frame from to .sent)
         × (now (table .exit) ≡ set (now (table .entry)) p (frameRule (getD (now (table .entry)) p nobody) frame from to .station)) ⌝ }
 {
-    let l = light_at(&*table, p, frame, from, to);
-    if l.ok {
-        turn_at(&mut *table, p, l.turn);
-        return l.sent;
+    let t = turned_at(&*table, p, frame, from, to);
+    if t.alone {
+        turn_at(&mut *table, p, t.turn);
+        return t.sent;
     }
     step_at(&mut *table, p, frame, from, to)
 }
@@ -162,12 +164,12 @@ pub fn handing_of(g: Going) -> Handing
         Dispatch::Nothing => Handing {
             n: g.n,
             m,
-            frame: Frame::Transmit {
+            frame: Frame::Transmit(TransmitFrame {
                 number: 0,
                 priority: 0,
                 master: 0,
                 named: 0,
-            },
+            }),
             quiet: true,
             from: 0,
             to: 0,
@@ -252,39 +254,25 @@ pub fn run_in(t: [Station; 64], out: &mut [u8], g: Going) -> Stepped
     }
 }
 
-// The station at `from` is handed a message of `length` octets.
-pub fn queue_at(
-    table: &mut [Station],
-    from: usize,
-    to: usize,
-    priority: usize,
-    channel: usize,
-    length: usize,
-) -> u32
-    requires { ⌜ from < count (now table) ⌝ }
-    ensures { λ r. ⌜ (r ≡ queueRule (getD (now (table .entry)) from nobody) to priority channel length .number)
-        × (now (table .exit) ≡ set (now (table .entry)) from (queueRule (getD (now (table .entry)) from nobody) to priority channel length .station)) ⌝ }
+// The station at `from` is handed a message.
+pub fn queue_at(table: &mut [Station], from: usize, q: Request) -> u32
+    requires { ⌜ from < length (now table) ⌝ }
+    ensures { λ r. ⌜ (r ≡ queueRule (getD (now (table .entry)) from nobody) q .number)
+        × (now (table .exit) ≡ set (now (table .entry)) from (queueRule (getD (now (table .entry)) from nobody) q .station)) ⌝ }
 {
     let s = table[from];
-    let d = s.queue(to, priority, channel, length);
+    let d = s.queue(q);
     table[from] = d.station;
     d.number
 }
 
 // The owner of the table lends it for a queue call.
-pub fn queue_in(
-    t: [Station; 64],
-    from: usize,
-    to: usize,
-    priority: usize,
-    channel: usize,
-    length: usize,
-) -> QueuedIn
+pub fn queue_in(t: [Station; 64], from: usize, q: Request) -> QueuedIn
     requires { ⌜ from < 64 ⌝ }
-    ensures { λ r. ⌜ r ≡ queuedIn t from to priority channel length ⌝ }
+    ensures { λ r. ⌜ r ≡ queuedIn t from q ⌝ }
 {
     let mut table = t;
-    let number = queue_at(&mut table, from, to, priority, channel, length);
+    let number = queue_at(&mut table, from, q);
     QueuedIn {
         stations: table,
         number,

@@ -11,7 +11,7 @@ use Rattle.bench.specs.declared.ring.Bench.{Bench}
 unfoldable pub stepsIn : List Event → ℕ
 stepsIn [] = 0
 stepsIn (stepped ∷ es) = suc (stepsIn es)
-stepsIn (queued from to priority channel length ∷ es) = stepsIn es
+stepsIn (queued from q ∷ es) = stepsIn es
 
 -- the number of the frame on the wire, 0 with none
 abbrev pub numberIn : Dispatch → ℕ

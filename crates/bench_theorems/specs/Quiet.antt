@@ -11,8 +11,10 @@ use Rattle.parts.specs.Frames.{numberOf, next, fit}
 use Rattle.station.specs.Stations.{stateOf, awaitedOf, head}
 use Rattle.plain_rules.specs.Round.{priorityOf}
 use Rattle.parts.specs.declared.moves.State.the-variants.{Idle, Waiting}
-use Rattle.parts.specs.declared.frame.Whom.{Whom}
 use Rattle.parts.specs.declared.frame.Whom.the-variants.{Nobody}
+use Rattle.parts.specs.declared.frame.TokenFrame.{TokenFrame}
+use Rattle.parts.specs.declared.frame.TransmitFrame.{TransmitFrame}
+use Rattle.parts.specs.declared.frame.InformationFrame.{InformationFrame}
 use Rattle.parts.specs.declared.frame.Frame.{Frame}
 use Rattle.parts.specs.declared.frame.Frame.the-variants.{Token, Transmit, Information}
 use Rattle.parts.specs.declared.frame.Dispatch.the-variants.{Sent}
@@ -53,10 +55,10 @@ pub data Stands (from before : ℕ) (f : Frame) (to p : ℕ) (s : Station) : Typ
 -- master, and the stations up to it have been asked; a transmit token from its master to the station that it names; information.
 -- No frame names a failing station
 pub data Phase (n from to : ℕ) : Frame → Type 0 where
-  token : (number priority master named : ℕ) → to ≡ after n from → offset n master named ≤ offset n master from
-      → Phase n from to (Token number priority master Nobody named)
-  transmit : (number priority named : ℕ) → to ≡ named → Phase n from to (Transmit number priority from named)
-  information : (number priority channel length place : ℕ) → Phase n from to (Information number priority channel length place)
+  token : (t : TokenFrame) → t .failing ≡ Nobody → to ≡ after n from → offset n (t .master) (t .named) ≤ offset n (t .master) from
+      → Phase n from to (Token t)
+  transmit : (t : TransmitFrame) → t .master ≡ from → to ≡ t .named → Phase n from to (Transmit t)
+  information : (i : InformationFrame) → Phase n from to (Information i)
 
 -- the head's priority, 0 if there is none
 abbrev pub headPriority : Station → ℕ
@@ -65,10 +67,10 @@ headPriority s = priorityOf (head s)
 -- what is offered, `heads` being the priority of each station's head: a token's priority is 0 and its master named, or the named
 -- station has a waiting message at least that high; so has the station to which a transmit token goes
 pub data Offers (heads : ℕ → ℕ) : Frame → Type 0 where
-  no-bid : (number priority master : ℕ) (failing : Whom) (named : ℕ) → priority ≡ 0 → named ≡ master → Offers heads (Token number priority master failing named)
-  bid : (number priority master : ℕ) (failing : Whom) (named : ℕ) → 1 ≤ priority → priority ≤ heads named → Offers heads (Token number priority master failing named)
-  granted : (number priority master named : ℕ) → 1 ≤ priority → priority ≤ heads named → Offers heads (Transmit number priority master named)
-  sent : (number priority channel length place : ℕ) → Offers heads (Information number priority channel length place)
+  no-bid : (t : TokenFrame) → t .priority ≡ 0 → t .named ≡ t .master → Offers heads (Token t)
+  bid : (t : TokenFrame) → 1 ≤ t .priority → t .priority ≤ heads (t .named) → Offers heads (Token t)
+  granted : (t : TransmitFrame) → 1 ≤ t .priority → t .priority ≤ heads (t .named) → Offers heads (Transmit t)
+  sent : (i : InformationFrame) → Offers heads (Information i)
 
 -- ---- how long ago a station last handled a frame
 
@@ -80,10 +82,10 @@ pub data Behind (k most : ℕ) : Handled → Type 0 where
 -- at most so many for the station at p: every round passes everybody, and a token has just passed those whom it asked. It is never
 -- more than 2n + 2, far below 65,536
 unfoldable pub longest : ℕ → ℕ → Frame → ℕ → ℕ
-longest n from (Token number priority master failing named) p =
-    pick (leb (offset n master p) (offset n master from)) (offset n master from + 1) (n + 3 + offset n master from)
-longest n from (Transmit number priority master named) p = n + 1
-longest n from (Information number priority channel length place) p = n + 2
+longest n from (Token t) p =
+    pick (leb (offset n (t .master) p) (offset n (t .master) from)) (offset n (t .master) from + 1) (n + 3 + offset n (t .master) from)
+longest n from (Transmit t) p = n + 1
+longest n from (Information i) p = n + 2
 
 -- ---- all of it
 

@@ -3,6 +3,7 @@
 use libc::STDIN_FILENO;
 use libc::STDOUT_FILENO;
 use parts::frame::Whom;
+use parts::request::Request;
 use script::reading::Held;
 use station::station::Answer;
 use station::station::Station;
@@ -38,7 +39,13 @@ fn obey(s: Station, line: &[u8]) -> Station {
     }
     if script::lines::is_word(word, b"queue") {
         let n = script::lines::numbers_behind(line, k);
-        return tell(s.queue(n.values[0], n.values[1], n.values[2], n.values[3]));
+        let q = Request {
+            to: n.values[0],
+            priority: n.values[1],
+            channel: n.values[2],
+            length: n.values[3],
+        };
+        return tell(s.queue(q));
     }
     s
 }

@@ -3,4 +3,5 @@ pub mod Choose
 pub mod Tests
 pub mod Live
 pub mod Messages
+pub mod Best
 pub mod Moves

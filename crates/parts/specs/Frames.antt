@@ -8,15 +8,18 @@ use Rattle.parts.specs.Choose.{pick, allOf}
 use Rattle.parts.specs.declared.list.Flight.{Flight}
 use Rattle.parts.specs.declared.frame.Whom.{Whom}
 use Rattle.parts.specs.declared.frame.Whom.the-variants.{Nobody, Member}
+use Rattle.parts.specs.declared.frame.TokenFrame.{TokenFrame}
+use Rattle.parts.specs.declared.frame.TransmitFrame.{TransmitFrame}
+use Rattle.parts.specs.declared.frame.InformationFrame.{InformationFrame}
 use Rattle.parts.specs.declared.frame.Frame.{Frame}
 use Rattle.parts.specs.declared.frame.Frame.the-variants.{Token, Transmit, Information}
 use Rattle.parts.specs.declared.frame.Dispatch.{Dispatch}
 use Rattle.parts.specs.declared.frame.Dispatch.the-variants.{Nothing, Sent}
 
 abbrev pub numberOf : Frame → ℕ
-numberOf (Token number priority master failing named) = number
-numberOf (Transmit number priority master named) = number
-numberOf (Information number priority channel length place) = number
+numberOf (Token t) = t .number
+numberOf (Transmit t) = t .number
+numberOf (Information i) = i .number
 
 -- "the number after 65,535 is 0"
 abbrev pub next : ℕ → ℕ
@@ -27,9 +30,9 @@ abbrev pub noFlight : Flight
 noFlight = record { on = false; place = 0 }
 
 abbrev pub flightIn : Frame → Flight
-flightIn (Token number priority master failing named) = noFlight
-flightIn (Transmit number priority master named) = noFlight
-flightIn (Information number priority channel length place) = record { on = true; place = place }
+flightIn (Token t) = noFlight
+flightIn (Transmit t) = noFlight
+flightIn (Information i) = record { on = true; place = i .place }
 
 abbrev pub flight : Dispatch → Flight
 flight Nothing = noFlight
@@ -37,9 +40,9 @@ flight (Sent frame to) = flightIn frame
 
 -- a token's failing station
 abbrev pub failingOf : Frame → Whom
-failingOf (Token number priority master failing named) = failing
-failingOf (Transmit number priority master named) = Nobody
-failingOf (Information number priority channel length place) = Nobody
+failingOf (Token t) = t .failing
+failingOf (Transmit t) = Nobody
+failingOf (Information i) = Nobody
 
 -- ---- fit to write on a ring of n: members, and fields in range
 
@@ -47,16 +50,16 @@ abbrev pub memberOrNobody : ℕ → Whom → Bool
 memberOrNobody n Nobody = true
 memberOrNobody n (Member p) = ltb p n
 
-abbrev pub fitToken : ℕ → ℕ → Whom → ℕ → Bool
-fitToken n master failing named = pick (leb n master) false (pick (leb n named) false (memberOrNobody n failing))
+abbrev pub fitToken : ℕ → TokenFrame → Bool
+fitToken n t = pick (leb n (t .master)) false (pick (leb n (t .named)) false (memberOrNobody n (t .failing)))
 
-abbrev pub fitTransmit : ℕ → ℕ → ℕ → ℕ → Bool
-fitTransmit n priority master named = pick (eqb priority 0) false (pick (leb n master) false (ltb named n))
+abbrev pub fitTransmit : ℕ → TransmitFrame → Bool
+fitTransmit n t = pick (eqb (t .priority) 0) false (pick (leb n (t .master)) false (ltb (t .named) n))
 
-abbrev pub fitInformation : ℕ → ℕ → ℕ → Bool
-fitInformation priority channel length = pick (eqb priority 0) false (pick (ltb 7 channel) false (leb length mostInformation))
+abbrev pub fitInformation : InformationFrame → Bool
+fitInformation i = pick (eqb (i .priority) 0) false (pick (ltb 7 (i .channel)) false (leb (i .length) mostInformation))
 
 abbrev pub fit : ℕ → Frame → Bool
-fit n (Token number priority master failing named) = fitToken n master failing named
-fit n (Transmit number priority master named) = fitTransmit n priority master named
-fit n (Information number priority channel length place) = fitInformation priority channel length
+fit n (Token t) = fitToken n t
+fit n (Transmit t) = fitTransmit n t
+fit n (Information i) = fitInformation i

@@ -1,7 +1,7 @@
 -- Messages and their lists.
 use mathlib.Core.Bool.{Bool, true, false, not, _&&_}
 use mathlib.Core.List.{List, [], _∷_, _++_}
-use Prim.Native.Nat.{ℕ, zero, suc, _+_, _-_}
+use Prim.Native.Nat.{ℕ, zero, suc, _+_, _-_, _≤_}
 use lib.ListN.{take, set, replicate, length}
 use lib.Dec.{ltb, eqb}
 use Rattle.parts.specs.Choose.{pick}
@@ -11,7 +11,8 @@ use Rattle.parts.specs.declared.list.Flight.{Flight}
 use Rattle.parts.specs.declared.list.Best.{Best}
 use Rattle.parts.specs.declared.list.Parts.{Parts}
 use Rattle.parts.specs.declared.list.Which.{Which}
-use Rattle.parts.specs.declared.list.Which.the-variants.{AnyWaiting, WaitingFor, HasPlace, OnChannel}
+use Rattle.parts.specs.declared.list.Which.the-variants.{AnyWaiting, WaitingFor, WaitingForOthers, HasPlace, OnChannel}
+use Rattle.parts.specs.declared.request.Request.{Request}
 
 -- the messages of a list, in order of acceptance
 abbrev pub all : Messages → List Message
@@ -22,6 +23,18 @@ used l = pick (ltb (l .len) 16) (l .len) 16
 
 abbrev pub blank : Message
 blank = record { other = 0; priority = 0; channel = 0; length = 0; place = 0 }
+
+-- the message that is asked for, with its payload at a place
+abbrev pub messageFor : Request → ℕ → Message
+messageFor q place =
+    record { other = q .to; priority = q .priority; channel = q .channel; length = q .length; place = place }
+
+-- each number of a request has room in its message
+pub record Fits (q : Request) : Type 0 where
+  pub to-fits : q .to ≤ 255
+  pub priority-fits : q .priority ≤ 255
+  pub channel-fits : q .channel ≤ 7
+  pub length-fits : q .length ≤ 1492
 
 abbrev pub none : Messages
 none = record { items = replicate 16 blank; len = 0 }
@@ -44,6 +57,7 @@ flies f m = f .on && eqb (f .place) (m .place)
 unfoldable pub fits : Which → Message → Bool
 fits (AnyWaiting f) m = not (flies f m)
 fits (WaitingFor f p) m = not (flies f m) && eqb (m .other) p
+fits (WaitingForOthers f p) m = not (flies f m) && not (eqb (m .other) p)
 fits (HasPlace p) m = eqb (m .place) p
 fits (OnChannel c) m = eqb (m .channel) c
 

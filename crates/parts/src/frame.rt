@@ -20,28 +20,34 @@ pub enum Whom {
     Member(u8),
 }
 
-// An information frame keeps, for its sender alone, the place of its message.
+pub struct TokenFrame {
+    pub number: u16,
+    pub priority: u8,
+    pub master: u8,
+    pub failing: Whom,
+    pub named: u8,
+}
+
+pub struct TransmitFrame {
+    pub number: u16,
+    pub priority: u8,
+    pub master: u8,
+    pub named: u8,
+}
+
+// It keeps, for its sender alone, the place of its message.
+pub struct InformationFrame {
+    pub number: u16,
+    pub priority: u8,
+    pub channel: u8,
+    pub length: u16,
+    pub place: u8,
+}
+
 pub enum Frame {
-    Token {
-        number: u16,
-        priority: u8,
-        master: u8,
-        failing: Whom,
-        named: u8,
-    },
-    Transmit {
-        number: u16,
-        priority: u8,
-        master: u8,
-        named: u8,
-    },
-    Information {
-        number: u16,
-        priority: u8,
-        channel: u8,
-        length: u16,
-        place: u8,
-    },
+    Token(TokenFrame),
+    Transmit(TransmitFrame),
+    Information(InformationFrame),
 }
 
 // A frame with its addressee, or none.
@@ -54,26 +60,9 @@ pub fn number_of(f: Frame) -> u16
     ensures { λ r. ⌜ r ≡ numberOf f ⌝ }
 {
     match f {
-        Frame::Token {
-            number,
-            priority: _,
-            master: _,
-            failing: _,
-            named: _,
-        } => number,
-        Frame::Transmit {
-            number,
-            priority: _,
-            master: _,
-            named: _,
-        } => number,
-        Frame::Information {
-            number,
-            priority: _,
-            channel: _,
-            length: _,
-            place: _,
-        } => number,
+        Frame::Token(t) => t.number,
+        Frame::Transmit(t) => t.number,
+        Frame::Information(i) => i.number,
     }
 }
 
@@ -88,32 +77,18 @@ fn flight_in(f: Frame) -> Flight
     ensures { λ r. ⌜ r ≡ flightIn f ⌝ }
 {
     match f {
-        Frame::Token {
-            number: _,
-            priority: _,
-            master: _,
-            failing: _,
-            named: _,
-        } => Flight {
+        Frame::Token(_) => Flight {
             on: false,
             place: 0,
         },
-        Frame::Transmit {
-            number: _,
-            priority: _,
-            master: _,
-            named: _,
-        } => Flight {
+        Frame::Transmit(_) => Flight {
             on: false,
             place: 0,
         },
-        Frame::Information {
-            number: _,
-            priority: _,
-            channel: _,
-            length: _,
-            place,
-        } => Flight { on: true, place },
+        Frame::Information(i) => Flight {
+            on: true,
+            place: i.place,
+        },
     }
 }
 
@@ -139,40 +114,41 @@ fn member_or_nobody(n: u8, w: Whom) -> bool
     }
 }
 
-fn fit_token(n: u8, master: u8, failing: Whom, named: u8) -> bool
-    ensures { λ r. ⌜ r ≡ fitToken n master failing named ⌝ }
+fn fit_token(n: u8, t: TokenFrame) -> bool
+    ensures { λ r. ⌜ r ≡ fitToken n t ⌝ }
 {
-    if n <= master {
+    if n <= t.master {
         return false;
     }
-    if n <= named {
+    if n <= t.named {
         return false;
     }
+    let failing = t.failing;
     member_or_nobody(n, failing)
 }
 
-fn fit_transmit(n: u8, priority: u8, master: u8, named: u8) -> bool
-    ensures { λ r. ⌜ r ≡ fitTransmit n priority master named ⌝ }
+fn fit_transmit(n: u8, t: TransmitFrame) -> bool
+    ensures { λ r. ⌜ r ≡ fitTransmit n t ⌝ }
 {
-    if priority == 0 {
+    if t.priority == 0 {
         return false;
     }
-    if n <= master {
+    if n <= t.master {
         return false;
     }
-    named < n
+    t.named < n
 }
 
-fn fit_information(priority: u8, channel: u8, length: u16) -> bool
-    ensures { λ r. ⌜ r ≡ fitInformation priority channel length ⌝ }
+fn fit_information(i: InformationFrame) -> bool
+    ensures { λ r. ⌜ r ≡ fitInformation i ⌝ }
 {
-    if priority == 0 {
+    if i.priority == 0 {
         return false;
     }
-    if 7 < channel {
+    if 7 < i.channel {
         return false;
     }
-    length as usize <= INFORMATION
+    i.length as usize <= INFORMATION
 }
 
 // Whether a frame is fit to write on a ring of `n`.
@@ -180,25 +156,8 @@ pub fn is_fit(n: u8, f: Frame) -> bool
     ensures { λ r. ⌜ r ≡ fit n f ⌝ }
 {
     match f {
-        Frame::Token {
-            number: _,
-            priority: _,
-            master,
-            failing,
-            named,
-        } => fit_token(n, master, failing, named),
-        Frame::Transmit {
-            number: _,
-            priority,
-            master,
-            named,
-        } => fit_transmit(n, priority, master, named),
-        Frame::Information {
-            number: _,
-            priority,
-            channel,
-            length,
-            place: _,
-        } => fit_information(priority, channel, length),
+        Frame::Token(t) => fit_token(n, t),
+        Frame::Transmit(t) => fit_transmit(n, t),
+        Frame::Information(i) => fit_information(i),
     }
 }

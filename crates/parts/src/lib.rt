@@ -1,5 +1,6 @@
-// What a station is made of, over ring positions: lists of messages, the live set, the table of moves, frames.
+// What a station is made of, over ring positions: lists of messages, the live set, the table of moves, frames, requests.
 pub mod frame;
 pub mod list;
 pub mod live;
 pub mod moves;
+pub mod request;

@@ -53,6 +53,7 @@ pub struct Flight {
 pub enum Which {
     AnyWaiting(Flight),
     WaitingFor(Flight, u8),
+    WaitingForOthers(Flight, u8),
     HasPlace(u8),
     OnChannel(usize),
 }
@@ -111,6 +112,7 @@ pub fn suits(w: Which, m: Message) -> bool
     match w {
         Which::AnyWaiting(f) => !in_flight(f, m),
         Which::WaitingFor(f, p) => { if in_flight(f, m) { false } else { m.other == p } }
+        Which::WaitingForOthers(f, p) => { if in_flight(f, m) { false } else { m.other != p } }
         Which::HasPlace(p) => m.place == p,
         Which::OnChannel(c) => m.channel as usize == c,
     }

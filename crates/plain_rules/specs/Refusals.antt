@@ -6,6 +6,7 @@ use lib.Dec.{leb, eqb, ltb}
 use Rattle.codec.specs.Order.{firstOf}
 use Rattle.codec.specs.Sizes.{mostInformation}
 use Rattle.parts.specs.declared.list.Best.{Best}
+use Rattle.parts.specs.declared.request.Request.{Request}
 
 -- sender or addressee not a member, both the same, sender not live or this station
 unfoldable pub heardRefusal : ℕ → ℕ → Bool → ℕ → ℕ → ℕ
@@ -20,16 +21,16 @@ heardRefusal n own alive from to =
 
 -- priority 0 or above 255; destination not a member, or this station; struck out; channel above 7; payload above 1,492;
 -- 16 messages in the send list
-unfoldable pub queueRefusal : ℕ → ℕ → Bool → ℕ → ℕ → ℕ → ℕ → ℕ → ℕ
-queueRefusal n own live len to priority channel length =
+unfoldable pub queueRefusal : ℕ → ℕ → Bool → ℕ → Request → ℕ
+queueRefusal n own live len q =
     firstOf 0
-    ((eqb priority 0, 14)
-    ∷ (ltb 255 priority, 14)
-    ∷ (leb n to, 15)
-    ∷ (eqb to own, 15)
+    ((eqb (q .priority) 0, 14)
+    ∷ (ltb 255 (q .priority), 14)
+    ∷ (leb n (q .to), 15)
+    ∷ (eqb (q .to) own, 15)
     ∷ (not live, 16)
-    ∷ (ltb 7 channel, 17)
-    ∷ (ltb mostInformation length, 18)
+    ∷ (ltb 7 (q .channel), 17)
+    ∷ (ltb mostInformation (q .length), 18)
     ∷ (leb 16 len, 19)
     ∷ [])
 

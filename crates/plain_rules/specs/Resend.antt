@@ -7,8 +7,9 @@ use Rattle.parts.specs.Choose.{pick}
 use Rattle.codec.specs.Order.{firstOf}
 use Rattle.parts.specs.Live.{liveAt}
 use Rattle.parts.specs.Frames.{next}
-use Rattle.plain_rules.specs.Round.{startRound, ownBid, forward}
+use Rattle.plain_rules.specs.Round.{startRound, bidOf, ownBid, forward}
 use Rattle.parts.specs.declared.frame.Whom.the-variants.{Member}
+use Rattle.parts.specs.declared.frame.TokenFrame.{TokenFrame}
 use Rattle.parts.specs.declared.frame.Frame.{Frame}
 use Rattle.parts.specs.declared.frame.Frame.the-variants.{Token, Transmit, Information}
 use Rattle.parts.specs.declared.frame.Dispatch.{Dispatch}
@@ -20,17 +21,16 @@ unfoldable pub renamed : Sight → ℕ → Bid → Bid
 renamed v to b = pick (eqb (b .named) to) (ownBid v) b
 
 -- a token passed on for a master still live goes to the new successor; one of its own starts a round
-unfoldable pub tokenAgain : Sight → ℕ → ℕ → ℕ → Bid → Dispatch
-tokenAgain v number to master b =
-    firstOf (forward v number master (Member to) (renamed v to b))
-    ((eqb master (v .own), startRound v number (Member to))
-    ∷ (not (liveAt (v .live) master), startRound v number (Member to))
+unfoldable pub tokenAgain : Sight → ℕ → ℕ → TokenFrame → Dispatch
+tokenAgain v number to t =
+    firstOf (forward v number t (Member to) (renamed v to (bidOf t)))
+    ((eqb (t .master) (v .own), startRound v number (Member to))
+    ∷ (not (liveAt (v .live) (t .master)), startRound v number (Member to))
     ∷ [])
 
 -- "in all other cases a round starts, also with the number after the old frame's. The token sent here names the struck
 -- station as failing"
 unfoldable pub resend : Sight → ℕ → Frame → Dispatch
-resend v to (Token number priority master failing named) =
-    tokenAgain v (next number) to master (record { priority = priority; named = named })
-resend v to (Transmit number priority master named) = startRound v (next number) (Member to)
-resend v to (Information number priority channel length place) = startRound v (next number) (Member to)
+resend v to (Token t) = tokenAgain v (next (t .number)) to t
+resend v to (Transmit t) = startRound v (next (t .number)) (Member to)
+resend v to (Information i) = startRound v (next (i .number)) (Member to)

@@ -11,6 +11,9 @@ use Rattle.parts.specs.declared.list.Message.{Message}
 use Rattle.parts.specs.declared.list.Best.{Best}
 use Rattle.parts.specs.declared.frame.Whom.{Whom}
 use Rattle.parts.specs.declared.frame.Whom.the-variants.{Nobody}
+use Rattle.parts.specs.declared.frame.TokenFrame.{TokenFrame}
+use Rattle.parts.specs.declared.frame.TransmitFrame.{TransmitFrame}
+use Rattle.parts.specs.declared.frame.InformationFrame.{InformationFrame}
 use Rattle.parts.specs.declared.frame.Frame.{Frame}
 use Rattle.parts.specs.declared.frame.Frame.the-variants.{Token, Transmit, Information}
 use Rattle.parts.specs.declared.frame.Dispatch.{Dispatch}
@@ -22,13 +25,33 @@ use Rattle.plain_rules.specs.declared.round.Bid.{Bid}
 abbrev pub priorityOf : Best → ℕ
 priorityOf b = pick (b .some) (b .message .priority) 0
 
+-- ---- the frames that are composed
+
+-- the token of a new round: itself as master, itself named
+abbrev pub opening : ℕ → ℕ → ℕ → Whom → TokenFrame
+opening own priority number failing = record { number = number; priority = priority; master = own; failing = failing; named = own }
+
+-- the information frame of a message
+abbrev pub carrying : ℕ → Message → InformationFrame
+carrying number m = record { number = number; priority = m .priority; channel = m .channel; length = m .length; place = m .place }
+
+-- a master's transmit token
+abbrev pub granting : ℕ → ℕ → ℕ → ℕ → TransmitFrame
+granting number priority master named = record { number = number; priority = priority; master = master; named = named }
+
+-- a token as it goes on, with another number, failing station and bid
+abbrev pub passing : ℕ → TokenFrame → Whom → Bid → TokenFrame
+passing number t failing b = record { number = number; priority = b .priority; master = t .master; failing = failing; named = b .named }
+
+-- ---- starting, sending, granting
+
 -- "a token to its successor with itself as master, its head's priority (0 if none), itself named"
 unfoldable pub startRound : Sight → ℕ → Whom → Dispatch
-startRound v number failing = Sent (Token number (priorityOf (v .head)) (v .own) failing (v .own)) (v .next)
+startRound v number failing = Sent (Token (opening (v .own) (priorityOf (v .head)) number failing)) (v .next)
 
 -- the information frame of a message, to its other end
 abbrev pub informationOf : ℕ → Message → Dispatch
-informationOf number m = Sent (Information number (m .priority) (m .channel) (m .length) (m .place)) (m .other)
+informationOf number m = Sent (Information (carrying number m)) (m .other)
 
 -- told to send: the head goes; "told to send with no head, it starts a round"
 unfoldable pub sendHead : Sight → ℕ → Dispatch
@@ -38,7 +61,7 @@ sendHead v number = pick (v .head .some) (informationOf number (v .head .message
 unfoldable pub grant : Sight → ℕ → ℕ → ℕ → Dispatch
 grant v number priority named =
     pick (liveAt (v .live) named)
-    (Sent (Transmit number priority (v .own) named) named)
+    (Sent (Transmit (granting number priority (v .own) named)) named)
     (startRound v number Nobody)
 
 -- a token naming this station as master: priority 0 starts a round; itself named sends its head; otherwise a transmit token
@@ -50,6 +73,9 @@ returned v number priority named =
     ∷ [])
 
 -- ---- a token's bid: its priority and its named station
+
+abbrev pub bidOf : TokenFrame → Bid
+bidOf t = record { priority = t .priority; named = t .named }
 
 -- this station's own (0 if no head)
 abbrev pub ownBid : Sight → Bid
@@ -64,25 +90,25 @@ unfoldable pub raised : Sight → Bid → Bid
 raised v b = pick (ltb (b .priority) (priorityOf (v .head))) (ownBid v) b
 
 -- a token goes on to the successor
-abbrev pub forward : Sight → ℕ → ℕ → Whom → Bid → Dispatch
-forward v number master failing b = Sent (Token number (b .priority) master failing (b .named)) (v .next)
+abbrev pub forward : Sight → ℕ → TokenFrame → Whom → Bid → Dispatch
+forward v number t failing b = Sent (Token (passing number t failing b)) (v .next)
 
 -- other token: if its master is not live, a round starts; else it goes to the successor, failing station kept
-unfoldable pub passOn : Sight → ℕ → ℕ → Whom → Bid → Dispatch
-passOn v number master failing b =
-    pick (liveAt (v .live) master)
-    (forward v number master failing (raised v (cleared v b)))
+unfoldable pub passOn : Sight → ℕ → TokenFrame → Dispatch
+passOn v number t =
+    pick (liveAt (v .live) (t .master))
+    (forward v number t (t .failing) (raised v (cleared v (bidOf t))))
     (startRound v number Nobody)
 
 -- a token, with the number of the frame to send
-unfoldable pub onToken : Sight → ℕ → ℕ → ℕ → Whom → ℕ → Dispatch
-onToken v number priority master failing named =
-    pick (eqb master (v .own))
-    (returned v number priority named)
-    (passOn v number master failing (record { priority = priority; named = named }))
+unfoldable pub onToken : Sight → ℕ → TokenFrame → Dispatch
+onToken v number t =
+    pick (eqb (t .master) (v .own))
+    (returned v number (t .priority) (t .named))
+    (passOn v number t)
 
 -- the frame sent on a heard one, with the next number
 unfoldable pub reply : Sight → Frame → Dispatch
-reply v (Token number priority master failing named) = onToken v (next number) priority master failing named
-reply v (Transmit number priority master named) = sendHead v (next number)
-reply v (Information number priority channel length place) = startRound v (next number) Nobody
+reply v (Token t) = onToken v (next (t .number)) t
+reply v (Transmit t) = sendHead v (next (t .number))
+reply v (Information i) = startRound v (next (i .number)) Nobody

@@ -29,26 +29,9 @@ pub fn failing_of(f: Frame) -> Whom
     ensures { λ r. ⌜ r ≡ failingOf f ⌝ }
 {
     match f {
-        Frame::Token {
-            number: _,
-            priority: _,
-            master: _,
-            failing,
-            named: _,
-        } => failing,
-        Frame::Transmit {
-            number: _,
-            priority: _,
-            master: _,
-            named: _,
-        } => Whom::Nobody,
-        Frame::Information {
-            number: _,
-            priority: _,
-            channel: _,
-            length: _,
-            place: _,
-        } => Whom::Nobody,
+        Frame::Token(t) => t.failing,
+        Frame::Transmit(_) => Whom::Nobody,
+        Frame::Information(_) => Whom::Nobody,
     }
 }
 

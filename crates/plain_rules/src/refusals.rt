@@ -3,6 +3,7 @@ ghost use mathlib.Core.Path.{_≡_};
 ghost use Rattle.plain_rules.specs.Refusals.{heardRefusal, queueRefusal, takeRefusal};
 use codec::sizes::INFORMATION;
 use parts::list::Best;
+use parts::request::Request;
 
 // A heard frame's checks.
 pub fn heard_refusal(n: u8, own: u8, alive: bool, from: u8, to: u8) -> u32
@@ -27,37 +28,28 @@ pub fn heard_refusal(n: u8, own: u8, alive: bool, from: u8, to: u8) -> u32
 }
 
 // What queue asks, in order.
-pub fn queue_refusal(
-    n: u8,
-    own: u8,
-    live: bool,
-    len: usize,
-    to: usize,
-    priority: usize,
-    channel: usize,
-    length: usize,
-) -> u32
-    ensures { λ r. ⌜ r ≡ queueRefusal n own live len to priority channel length ⌝ }
+pub fn queue_refusal(n: u8, own: u8, live: bool, len: usize, q: Request) -> u32
+    ensures { λ r. ⌜ r ≡ queueRefusal n own live len q ⌝ }
 {
-    if priority == 0 {
+    if q.priority == 0 {
         return 14;
     }
-    if 255 < priority {
+    if 255 < q.priority {
         return 14;
     }
-    if n as usize <= to {
+    if n as usize <= q.to {
         return 15;
     }
-    if to == own as usize {
+    if q.to == own as usize {
         return 15;
     }
     if !live {
         return 16;
     }
-    if 7 < channel {
+    if 7 < q.channel {
         return 17;
     }
-    if INFORMATION < length {
+    if INFORMATION < q.length {
         return 18;
     }
     if 16 <= len {

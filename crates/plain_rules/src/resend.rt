@@ -5,6 +5,7 @@ use crate::round::Bid;
 use crate::round::Sight;
 use parts::frame::Dispatch;
 use parts::frame::Frame;
+use parts::frame::TokenFrame;
 use parts::frame::Whom;
 
 pub fn rename(v: Sight, to: u8, b: Bid) -> Bid
@@ -16,18 +17,22 @@ pub fn rename(v: Sight, to: u8, b: Bid) -> Bid
     b
 }
 
-pub fn token_again(v: Sight, number: u16, to: u8, master: u8, b: Bid) -> Dispatch
-    ensures { λ r. ⌜ r ≡ tokenAgain v number to master b ⌝ }
+pub fn token_again(v: Sight, number: u16, to: u8, t: TokenFrame) -> Dispatch
+    ensures { λ r. ⌜ r ≡ tokenAgain v number to t ⌝ }
 {
     let w = Whom::Member(to);
-    if master == v.own {
+    if t.master == v.own {
         return crate::round::round_from(v, number, w);
     }
-    if !parts::live::is_live(v.live, master as usize) {
+    if !parts::live::is_live(v.live, t.master as usize) {
         return crate::round::round_from(v, number, w);
     }
+    let b = Bid {
+        priority: t.priority,
+        named: t.named,
+    };
     let c = rename(v, to, b);
-    crate::round::forward_to(v, number, master, w, c)
+    crate::round::forward_to(v, number, t, w, c)
 }
 
 // What goes out after the last timer of a frame to `to`.
@@ -35,35 +40,17 @@ pub fn send_instead(v: Sight, to: u8, f: Frame) -> Dispatch
     ensures { λ r. ⌜ r ≡ resend v to f ⌝ }
 {
     match f {
-        Frame::Token {
-            number,
-            priority,
-            master,
-            failing: _,
-            named,
-        } => {
-            let k = parts::frame::next_number(number);
-            let b = Bid { priority, named };
-            token_again(v, k, to, master, b)
+        Frame::Token(t) => {
+            let k = parts::frame::next_number(t.number);
+            token_again(v, k, to, t)
         }
-        Frame::Transmit {
-            number,
-            priority: _,
-            master: _,
-            named: _,
-        } => {
-            let k = parts::frame::next_number(number);
+        Frame::Transmit(t) => {
+            let k = parts::frame::next_number(t.number);
             let w = Whom::Member(to);
             crate::round::round_from(v, k, w)
         }
-        Frame::Information {
-            number,
-            priority: _,
-            channel: _,
-            length: _,
-            place: _,
-        } => {
-            let k = parts::frame::next_number(number);
+        Frame::Information(i) => {
+            let k = parts::frame::next_number(i.number);
             let w = Whom::Member(to);
             crate::round::round_from(v, k, w)
         }

@@ -16,6 +16,9 @@ ghost use Rattle.plain_rules.specs.Round.{
 };
 use parts::frame::Dispatch;
 use parts::frame::Frame;
+use parts::frame::InformationFrame;
+use parts::frame::TokenFrame;
+use parts::frame::TransmitFrame;
 use parts::frame::Whom;
 use parts::list::Best;
 use parts::live::Live;
@@ -44,13 +47,13 @@ pub fn round_from(v: Sight, number: u16, failing: Whom) -> Dispatch
     ensures { λ r. ⌜ r ≡ startRound v number failing ⌝ }
 {
     let priority = head_priority(v.head);
-    let frame = Frame::Token {
+    let frame = Frame::Token(TokenFrame {
         number,
         priority,
         master: v.own,
         failing,
         named: v.own,
-    };
+    });
     Dispatch::Sent { frame, to: v.next }
 }
 
@@ -61,13 +64,13 @@ pub fn send_head(v: Sight, number: u16) -> Dispatch
     let b = v.head;
     if b.some {
         let m = b.message;
-        let frame = Frame::Information {
+        let frame = Frame::Information(InformationFrame {
             number,
             priority: m.priority,
             channel: m.channel,
             length: m.length,
             place: m.place,
-        };
+        });
         return Dispatch::Sent { frame, to: m.other };
     }
     round_from(v, number, Whom::Nobody)
@@ -78,12 +81,12 @@ pub fn grant_to(v: Sight, number: u16, priority: u8, named: u8) -> Dispatch
     ensures { λ r. ⌜ r ≡ grant v number priority named ⌝ }
 {
     if parts::live::is_live(v.live, named as usize) {
-        let frame = Frame::Transmit {
+        let frame = Frame::Transmit(TransmitFrame {
             number,
             priority,
             master: v.own,
             named,
-        };
+        });
         return Dispatch::Sent { frame, to: named };
     }
     round_from(v, number, Whom::Nobody)
@@ -132,45 +135,42 @@ pub fn raise_bid(v: Sight, b: Bid) -> Bid
     b
 }
 
-pub fn forward_to(v: Sight, number: u16, master: u8, failing: Whom, b: Bid) -> Dispatch
-    ensures { λ r. ⌜ r ≡ forward v number master failing b ⌝ }
+pub fn forward_to(v: Sight, number: u16, t: TokenFrame, failing: Whom, b: Bid) -> Dispatch
+    ensures { λ r. ⌜ r ≡ forward v number t failing b ⌝ }
 {
-    let frame = Frame::Token {
+    let frame = Frame::Token(TokenFrame {
         number,
         priority: b.priority,
-        master,
+        master: t.master,
         failing,
         named: b.named,
-    };
+    });
     Dispatch::Sent { frame, to: v.next }
 }
 
-pub fn pass_on(v: Sight, number: u16, master: u8, failing: Whom, b: Bid) -> Dispatch
-    ensures { λ r. ⌜ r ≡ passOn v number master failing b ⌝ }
+pub fn pass_on(v: Sight, number: u16, t: TokenFrame) -> Dispatch
+    ensures { λ r. ⌜ r ≡ passOn v number t ⌝ }
 {
-    if parts::live::is_live(v.live, master as usize) {
+    if parts::live::is_live(v.live, t.master as usize) {
+        let b = Bid {
+            priority: t.priority,
+            named: t.named,
+        };
         let c = clear_bid(v, b);
         let d = raise_bid(v, c);
-        return forward_to(v, number, master, failing, d);
+        let failing = t.failing;
+        return forward_to(v, number, t, failing, d);
     }
     round_from(v, number, Whom::Nobody)
 }
 
-pub fn on_token(
-    v: Sight,
-    number: u16,
-    priority: u8,
-    master: u8,
-    failing: Whom,
-    named: u8,
-) -> Dispatch
-    ensures { λ r. ⌜ r ≡ onToken v number priority master failing named ⌝ }
+pub fn on_token(v: Sight, number: u16, t: TokenFrame) -> Dispatch
+    ensures { λ r. ⌜ r ≡ onToken v number t ⌝ }
 {
-    if master == v.own {
-        return token_back(v, number, priority, named);
+    if t.master == v.own {
+        return token_back(v, number, t.priority, t.named);
     }
-    let b = Bid { priority, named };
-    pass_on(v, number, master, failing, b)
+    pass_on(v, number, t)
 }
 
 // The frame sent on a heard one.
@@ -178,33 +178,16 @@ pub fn reply_to(v: Sight, f: Frame) -> Dispatch
     ensures { λ r. ⌜ r ≡ reply v f ⌝ }
 {
     match f {
-        Frame::Token {
-            number,
-            priority,
-            master,
-            failing,
-            named,
-        } => {
-            let k = parts::frame::next_number(number);
-            on_token(v, k, priority, master, failing, named)
+        Frame::Token(t) => {
+            let k = parts::frame::next_number(t.number);
+            on_token(v, k, t)
         }
-        Frame::Transmit {
-            number,
-            priority: _,
-            master: _,
-            named: _,
-        } => {
-            let k = parts::frame::next_number(number);
+        Frame::Transmit(t) => {
+            let k = parts::frame::next_number(t.number);
             send_head(v, k)
         }
-        Frame::Information {
-            number,
-            priority: _,
-            channel: _,
-            length: _,
-            place: _,
-        } => {
-            let k = parts::frame::next_number(number);
+        Frame::Information(i) => {
+            let k = parts::frame::next_number(i.number);
             round_from(v, k, Whom::Nobody)
         }
     }

@@ -11,11 +11,12 @@ use Rattle.parts.specs.declared.frame.Whom.the-variants.{Nobody}
 use Rattle.parts.specs.declared.frame.Frame.the-variants.{Token}
 use Rattle.parts.specs.declared.frame.Dispatch.the-variants.{Sent}
 use Rattle.plain_rules.specs.Heard.{acknowledges}
+use Rattle.plain_rules.specs.Round.{opening}
 use Rattle.bench.specs.Calls.{queue}
 use Rattle.bench.specs.Runs.{queued, stepping}
 use Rattle.bench.specs.Text.{lineFeed}
 use Rattle.script.specs.Script.{output}
-use Rattle.waiting.specs.Waiting.{spotFor, before, shorts, octetsOnWire, atQueue}
+use Rattle.waiting.specs.Waiting.{spotFor, before, shorts, octetsOnWire, atQueue, itsRequest, foreignRequest}
 
 pub record Case : Type 0 where
   pub given : List ℕ
@@ -44,7 +45,7 @@ wire n = wireOctets (information 1 0 0 n)
 
 -- 1 where a token of number k to station 1 is acknowledged by a frame of number j from a station, else 0
 acknowledgedBy : ℕ → ℕ → ℕ → ℕ
-acknowledgedBy k j from = cond (acknowledges (Sent (Token k 0 0 Nobody 0) 1) from j) 1 0
+acknowledgedBy k j from = cond (acknowledges (Sent (Token (opening 0 0 k Nobody)) 1) from j) 1 0
 
 -- the octets of a text, and of lines of text
 octets : String → List ℕ
@@ -62,8 +63,8 @@ bench script = output (lines script)
 -- the short frames and the octets before a message's own frame, in the run that reaches the bound on a ring of n
 waits : ℕ → List ℕ
 waits n =
-    let b = atQueue n 1 (queued (n - 1) 1 5 0 1492 ∷ []) in
-    let rows = before (spotFor b 0) (queue b 0 1 9 0 0 .bench) (stepping (2 * n + 3)) in
+    let b = atQueue n 1 (queued (n - 1) foreignRequest ∷ []) in
+    let rows = before (spotFor b 0) (queue b 0 itsRequest .bench) (stepping (2 * n + 3)) in
     shorts rows ∷ octetsOnWire rows ∷ []
 
 unfoldable pub cases : List Case

@@ -19,6 +19,9 @@ use Rattle.parts.specs.declared.list.Message.{Message}
 use Rattle.parts.specs.declared.list.Messages.{Messages}
 use Rattle.parts.specs.declared.frame.Whom.{Whom}
 use Rattle.parts.specs.declared.frame.Whom.the-variants.{Nobody, Member}
+use Rattle.parts.specs.declared.frame.TokenFrame.{TokenFrame}
+use Rattle.parts.specs.declared.frame.TransmitFrame.{TransmitFrame}
+use Rattle.parts.specs.declared.frame.InformationFrame.{InformationFrame}
 use Rattle.parts.specs.declared.frame.Frame.{Frame}
 use Rattle.parts.specs.declared.frame.Frame.the-variants.{Token, Transmit, Information}
 use Rattle.parts.specs.declared.frame.Dispatch.{Dispatch}
@@ -74,26 +77,35 @@ unfoldable pub whomFrom : ℕ → Whom
 whomFrom k = pick (eqb k 0) Nobody (pick (ltb 256 k) Nobody (Member (k - 1)))
 
 unfoldable pub slipTo : ℕ → Frame → Slip
-slipTo to (Token number priority master failing named) =
+slipTo to (Token t) =
     record
-    { kind = 1; to = to; number = number; priority = priority; master = master; failing = whomNumber failing; named = named; channel = 0; place = 0; length = 0 }
-slipTo to (Transmit number priority master named) =
+    { kind = 1; to = to; number = t .number; priority = t .priority; master = t .master; failing = whomNumber (t .failing); named = t .named; channel = 0; place = 0; length = 0 }
+slipTo to (Transmit t) =
     record
-    { kind = 2; to = to; number = number; priority = priority; master = master; failing = 0; named = named; channel = 0; place = 0; length = 0 }
-slipTo to (Information number priority channel length place) =
+    { kind = 2; to = to; number = t .number; priority = t .priority; master = t .master; failing = 0; named = t .named; channel = 0; place = 0; length = 0 }
+slipTo to (Information i) =
     record
-    { kind = 3; to = to; number = number; priority = priority; master = 0; failing = 0; named = 0; channel = channel; place = place; length = length }
+    { kind = 3; to = to; number = i .number; priority = i .priority; master = 0; failing = 0; named = 0; channel = i .channel; place = i .place; length = i .length }
 
 unfoldable pub slipOf : Dispatch → Slip
 slipOf Nothing = noSlip
 slipOf (Sent frame to) = slipTo to frame
 
+abbrev pub tokenFrom : Slip → TokenFrame
+tokenFrom p = record { number = p .number; priority = p .priority; master = p .master; failing = whomFrom (p .failing); named = p .named }
+
+abbrev pub transmitFrom : Slip → TransmitFrame
+transmitFrom p = record { number = p .number; priority = p .priority; master = p .master; named = p .named }
+
+abbrev pub informationFrom : Slip → InformationFrame
+informationFrom p = record { number = p .number; priority = p .priority; channel = p .channel; length = p .length; place = p .place }
+
 unfoldable pub dispatchFrom : Slip → Dispatch
 dispatchFrom p =
     pick (eqb (p .kind) 0) Nothing
-    (pick (eqb (p .kind) 1) (Sent (Token (p .number) (p .priority) (p .master) (whomFrom (p .failing)) (p .named)) (p .to))
-    (pick (eqb (p .kind) 2) (Sent (Transmit (p .number) (p .priority) (p .master) (p .named)) (p .to))
-    (Sent (Information (p .number) (p .priority) (p .channel) (p .length) (p .place)) (p .to))))
+    (pick (eqb (p .kind) 1) (Sent (Token (tokenFrom p)) (p .to))
+    (pick (eqb (p .kind) 2) (Sent (Transmit (transmitFrom p)) (p .to))
+    (Sent (Information (informationFrom p)) (p .to))))
 
 unfoldable pub sameSlip : Slip → Slip → Bool
 sameSlip p q =

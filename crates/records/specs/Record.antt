@@ -11,21 +11,22 @@ use Rattle.codec.specs.Ring.{Ring, RingRead, count, readRing, noRing}
 use Rattle.parts.specs.Choose.{allOf}
 use Rattle.station.specs.Stations.{made}
 use Rattle.wholeness.specs.Whole.{whole}
+use Rattle.station.specs.declared.station.Counts.{Counts}
 use Rattle.station.specs.declared.station.Station.{Station}
 use Rattle.records.specs.Layout.{ringRoom, ownAt, lostAt, givenUpAt, liveAt, sendsAt, receivesAt, recordLength}
 use Rattle.records.specs.Fields.{turnAt, turnGood, turnOctets, liveFrom, flagsGood, liveOctets, restGood, messagesAt, messagesOctets}
 
 -- ---- the octets
 
-abbrev pub countsOctets : ℕ → ℕ → List ℕ
-countsOctets lost givenup = octets 4 lost ++ octets 4 givenup
+abbrev pub countsOctets : Counts → List ℕ
+countsOctets c = octets 4 (c .lost) ++ octets 4 (c .givenup)
 
 abbrev pub listsOctets : Station → List ℕ
 listsOctets s = messagesOctets (s .sends) ++ messagesOctets (s .receives)
 
 -- the fields before the lists
 abbrev pub headOctets : Station → List ℕ
-headOctets s = turnOctets (s .own) (s .turn) ++ (countsOctets (s .lost) (s .givenup) ++ liveOctets (s .live))
+headOctets s = turnOctets (s .own) (s .turn) ++ (countsOctets (s .counts) ++ liveOctets (s .live))
 
 -- the fields, in their order
 abbrev pub stationOctets : Station → List ℕ
@@ -53,6 +54,9 @@ ringFrom s = readRing (fileOf s)
 abbrev pub padGood : List ℕ → Bool
 padGood s = eqb (firstNonzero s (fileLength s) (ringRoom - fileLength s)) ringRoom
 
+abbrev pub countsAt : List ℕ → Counts
+countsAt s = record { lost = numberAt s lostAt 4; givenup = numberAt s givenUpAt 4 }
+
 abbrev pub stationFrom : List ℕ → ℕ → ℕ → Station
 stationFrom s n limit =
     record {
@@ -63,8 +67,7 @@ stationFrom s n limit =
       sends = messagesAt s sendsAt;
       receives = messagesAt s receivesAt;
       turn = turnAt s;
-      lost = numberAt s lostAt 4;
-      givenup = numberAt s givenUpAt 4;
+      counts = countsAt s;
     }
 
 abbrev pub stationOf : List ℕ → Station

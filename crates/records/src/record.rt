@@ -11,6 +11,7 @@ ghost use Rattle.records.specs.Layout.{ownAt, sendsAt, recordLength, rin
 ghost use Rattle.records.specs.Fields.{turnOctets, liveOctets, messagesOctets};
 ghost use Rattle.records.specs.Record.{
   countsOctets,
+  countsAt,
   listsOctets,
   stationOctets,
   ringOctets,
@@ -46,6 +47,7 @@ use codec::octets::get;
 use codec::octets::nonzero;
 use parts::list::Messages;
 use parts::live::Live;
+use station::station::Counts;
 use station::station::Station;
 use station::station::Turn;
 
@@ -113,6 +115,16 @@ pub fn ring_into(s: &[u8], addresses: &mut [u64]) -> usize
     (end - 2) / 6
 }
 
+pub fn counts_at(s: &[u8]) -> Counts
+    requires { ⌜ recordLength ≤ length (now s) ⌝ }
+    ensures { λ r. ⌜ r ≡ countsAt (now (s .entry)) ⌝ }
+{
+    Counts {
+        lost: get(s, LOST, 4) as u32,
+        givenup: get(s, GIVEN_UP, 4) as u32,
+    }
+}
+
 // The station that the fields give, of a ring of `n`.
 pub fn station_from(s: &[u8], n: usize) -> Station
     requires { ⌜ (recordLength ≤ length (now s)) × (n ≤ 64) × (restsGood (now s) ≡ true) ⌝ }
@@ -122,6 +134,7 @@ pub fn station_from(s: &[u8], n: usize) -> Station
     let sends = messages_at(s, SENDS);
     let receives = messages_at(s, RECEIVES);
     let turn = turn_at(s);
+    let counts = counts_at(s);
     Station {
         n: n as u8,
         limit: codec::bits::bits(s, 10, 4) as u8,
@@ -130,18 +143,17 @@ pub fn station_from(s: &[u8], n: usize) -> Station
         sends,
         receives,
         turn,
-        lost: get(s, LOST, 4) as u32,
-        givenup: get(s, GIVEN_UP, 4) as u32,
+        counts,
     }
 }
 
 // Own position, turn, counts and live set.
-pub fn put_head(out: &mut [u8], own: u8, turn: Turn, lost: u32, givenup: u32, live: Live)
+pub fn put_head(out: &mut [u8], own: u8, turn: Turn, counts: Counts, live: Live)
     requires { ⌜ recordLength ≤ length (now out) ⌝ }
-    ensures { λ _. ⌜ now (out .exit) ≡ laid (now (out .entry)) ownAt (turnOctets own turn ++ (countsOctets lost givenup ++ liveOctets live)) ⌝ }
+    ensures { λ _. ⌜ now (out .exit) ≡ laid (now (out .entry)) ownAt (turnOctets own turn ++ (countsOctets counts ++ liveOctets live)) ⌝ }
 {
     put_turn(out, own, turn);
-    put_two(out, LOST, 4, lost as u64, 4, givenup as u64);
+    put_two(out, LOST, 4, counts.lost as u64, 4, counts.givenup as u64);
     put_live(out, live);
 }
 
@@ -158,7 +170,7 @@ pub fn save(out: &mut [u8], s: Station)
     requires { ⌜ recordLength ≤ length (now out) ⌝ }
     ensures { λ _. ⌜ now (out .exit) ≡ laid (now (out .entry)) ownAt (stationOctets s) ⌝ }
 {
-    put_head(out, s.own, s.turn, s.lost, s.givenup, s.live);
+    put_head(out, s.own, s.turn, s.counts, s.live);
     put_lists(out, s.sends, s.receives);
 }
 

@@ -33,6 +33,9 @@ use crate::layout::TO_IN;
 use codec::octets::get;
 use parts::frame::Dispatch;
 use parts::frame::Frame;
+use parts::frame::InformationFrame;
+use parts::frame::TokenFrame;
+use parts::frame::TransmitFrame;
 use parts::frame::Whom;
 
 // Kind 0 is none, 1 a token, 2 a transmit token, 3 information. A failing station is its position and one, or 0 for none.
@@ -91,58 +94,44 @@ pub fn slip_to(to: u8, f: Frame) -> Slip
     ensures { λ r. ⌜ r ≡ slipTo to f ⌝ }
 {
     match f {
-        Frame::Token {
-            number,
-            priority,
-            master,
-            failing,
-            named,
-        } => Slip {
-            kind: 1,
-            to,
-            number,
-            priority,
-            master,
-            failing: whom_number(failing),
-            named,
-            channel: 0,
-            place: 0,
-            length: 0,
-        },
-        Frame::Transmit {
-            number,
-            priority,
-            master,
-            named,
-        } => Slip {
+        Frame::Token(t) => {
+            let failing = t.failing;
+            Slip {
+                kind: 1,
+                to,
+                number: t.number,
+                priority: t.priority,
+                master: t.master,
+                failing: whom_number(failing),
+                named: t.named,
+                channel: 0,
+                place: 0,
+                length: 0,
+            }
+        }
+        Frame::Transmit(t) => Slip {
             kind: 2,
             to,
-            number,
-            priority,
-            master,
+            number: t.number,
+            priority: t.priority,
+            master: t.master,
             failing: 0,
-            named,
+            named: t.named,
             channel: 0,
             place: 0,
             length: 0,
         },
-        Frame::Information {
-            number,
-            priority,
-            channel,
-            length,
-            place,
-        } => Slip {
+        Frame::Information(i) => Slip {
             kind: 3,
             to,
-            number,
-            priority,
+            number: i.number,
+            priority: i.priority,
             master: 0,
             failing: 0,
             named: 0,
-            channel,
-            place,
-            length,
+            channel: i.channel,
+            place: i.place,
+            length: i.length,
         },
     }
 }
@@ -164,31 +153,31 @@ pub fn dispatch_from(p: Slip) -> Dispatch
     }
     if p.kind == 1 {
         let failing = whom_from(p.failing);
-        let frame = Frame::Token {
+        let frame = Frame::Token(TokenFrame {
             number: p.number,
             priority: p.priority,
             master: p.master,
             failing,
             named: p.named,
-        };
+        });
         return Dispatch::Sent { frame, to: p.to };
     }
     if p.kind == 2 {
-        let frame = Frame::Transmit {
+        let frame = Frame::Transmit(TransmitFrame {
             number: p.number,
             priority: p.priority,
             master: p.master,
             named: p.named,
-        };
+        });
         return Dispatch::Sent { frame, to: p.to };
     }
-    let frame = Frame::Information {
+    let frame = Frame::Information(InformationFrame {
         number: p.number,
         priority: p.priority,
         channel: p.channel,
         length: p.length,
         place: p.place,
-    };
+    });
     Dispatch::Sent { frame, to: p.to }
 }
 

@@ -6,6 +6,7 @@ use lib.Dec.{ltb, leb, eqb}
 use lib.ListN.{length, getD, drop, set, replicate}
 use Rattle.codec.specs.Order.{firstOf}
 use Rattle.parts.specs.Choose.{pick, allOf, every}
+use Rattle.parts.specs.declared.request.Request.{Request}
 use Rattle.bench.specs.Text.{space, lineFeed}
 use Rattle.script.specs.declared.lines.Numbers.{Numbers}
 use Rattle.script.specs.declared.lines.Line.{Line}
@@ -68,12 +69,16 @@ valueAt ws i = value (wordAt ws i)
 unfoldable pub shaped : List ℕ → ℕ → List (List ℕ) → Bool
 shaped w k ws = allOf (same (wordAt ws 0) w ∷ eqb (length ws) (k + 1) ∷ every isNumber (drop 1 ws) ∷ [])
 
+-- TO, PRIORITY, CHANNEL and LENGTH
+abbrev pub requestIn : List (List ℕ) → Request
+requestIn ws = record { to = valueAt ws 2; priority = valueAt ws 3; channel = valueAt ws 4; length = valueAt ws 5 }
+
 -- `ring N`, `queue FROM TO PRIORITY CHANNEL LENGTH`, `step COUNT`
 unfoldable pub lineOfWords : List (List ℕ) → Line
 lineOfWords ws =
     firstOf Bad
     ((shaped ringWord 1 ws, Ring (valueAt ws 1))
-    ∷ (shaped queueWord 5 ws, Queue (valueAt ws 1) (valueAt ws 2) (valueAt ws 3) (valueAt ws 4) (valueAt ws 5))
+    ∷ (shaped queueWord 5 ws, Queue (valueAt ws 1) (requestIn ws))
     ∷ (shaped stepWord 1 ws, Step (valueAt ws 1))
     ∷ [])
 

@@ -32,16 +32,16 @@ ringText n = heading ++ rowsText (rowsOn (ringOf n .wire))
 unfoldable pub does : Session → Line → Session
 does s Bad = s
 does s (Ring n) = pick (opens (s .begun) n) (onBench (ringOf n)) s
-does s (Queue from to priority channel length) =
-    pick (s .begun) (onBench (queue (s .bench) from to priority channel length .bench)) s
+does s (Queue from q) =
+    pick (s .begun) (onBench (queue (s .bench) from q .bench)) s
 does s (Step count) = pick (s .begun) (onBench (steps count (s .bench))) s
 
 -- "an accepted `ring` prints the heading and frame 0; a refused queue prints `refused` and the number; every frame prints a line"
 unfoldable pub prints : Session → Line → List ℕ
 prints s Bad = badLine
 prints s (Ring n) = pick (opens (s .begun) n) (ringText n) badLine
-prints s (Queue from to priority channel length) =
-    pick (s .begun) (answerText (queue (s .bench) from to priority channel length .number)) badLine
+prints s (Queue from q) =
+    pick (s .begun) (answerText (queue (s .bench) from q .number)) badLine
 prints s (Step count) = pick (s .begun) (rowsText (frames (s .bench) (stepping count))) badLine
 
 unfoldable pub printed : Session → List (List ℕ) → List ℕ

@@ -17,7 +17,7 @@ use Rattle.script.specs.declared.session.Acted.{Acted}
 unfoldable pub refuses : Bool → Line → Bool
 refuses begun Bad = true
 refuses begun (Ring n) = not (opens begun n)
-refuses begun (Queue from to priority channel length) = not begun
+refuses begun (Queue from q) = not begun
 refuses begun (Step count) = not begun
 
 -- whether a call has room for all that it prints at once, steps apart
@@ -31,14 +31,14 @@ badText room = pick (roomy room) badLine []
 unfoldable pub cut : Line → ℕ → Line
 cut Bad room = Bad
 cut (Ring n) room = Ring n
-cut (Queue from to priority channel length) room = Queue from to priority channel length
+cut (Queue from q) room = Queue from q
 cut (Step count) room = Step (fitting count room)
 
 -- and how many steps are left
 unfoldable pub leftOf : Bool → Line → ℕ → ℕ
 leftOf begun Bad room = 0
 leftOf begun (Ring n) room = 0
-leftOf begun (Queue from to priority channel length) room = 0
+leftOf begun (Queue from q) room = 0
 leftOf begun (Step count) room = pick begun (count - fitting count room) 0
 
 abbrev pub actedBy : Session → List ℕ → ℕ → ℕ → Acted

@@ -3,16 +3,11 @@ ghost use mathlib.Core.Path.{_≡_};
 ghost use Prim.Native.Nat.{_≤_};
 ghost use lib.ListN.{length, drop};
 ghost use Rattle.script.specs.Lines.{firstWord, numberOr, same, joined, numbersOf, lineOf};
+use parts::request::Request;
 
 pub enum Line {
     Ring(usize),
-    Queue {
-        from: usize,
-        to: usize,
-        priority: usize,
-        channel: usize,
-        length: usize,
-    },
+    Queue { from: usize, request: Request },
     Step(usize),
     Bad,
 }
@@ -146,12 +141,15 @@ pub fn read_line(s: &[u8]) -> Line
     }
     if n.count == 5 {
         if is_word(&s[..k], b"queue") {
-            return Line::Queue {
-                from: n.values[0],
+            let request = Request {
                 to: n.values[1],
                 priority: n.values[2],
                 channel: n.values[3],
                 length: n.values[4],
+            };
+            return Line::Queue {
+                from: n.values[0],
+                request,
             };
         }
     }

@@ -12,6 +12,7 @@ ghost use Rattle.script.specs.Script.{unbegun, onBench, opens, ringText}
 ghost use Rattle.script.specs.Session.{refuses, badText, actedBy, obeyed, obeyedText};
 use crate::lines::Line;
 use bench::ring::Bench;
+use parts::request::Request;
 
 // Whether there is a ring yet, and its bench.
 pub struct Session {
@@ -52,10 +53,7 @@ pub fn is_refused(begun: bool, l: Line) -> bool
         Line::Ring(n) => !opens_ring(begun, n),
         Line::Queue {
             from: _,
-            to: _,
-            priority: _,
-            channel: _,
-            length: _,
+            request: _,
         } => !begun,
         Line::Step(_) => !begun,
     }
@@ -118,25 +116,16 @@ impl Session {
     }
 
     // A queue call.
-    fn send(
-        self,
-        from: usize,
-        to: usize,
-        priority: usize,
-        channel: usize,
-        size: usize,
-        out: &mut [u8],
-        at: usize,
-    ) -> Acted
+    fn send(self, from: usize, q: Request, out: &mut [u8], at: usize) -> Acted
         requires { ⌜ at + 64 ≤ length (now out) ⌝ }
-        ensures { λ r. ⌜ (r ≡ actedBy (onBench (queue (self .bench) from to priority channel size .bench))
-            (answerText (queue (self .bench) from to priority channel size .number)) at 0)
-            × (now (out .exit) ≡ laid (now (out .entry)) at (answerText (queue (self .bench) from to priority channel size .number))) ⌝ }
+        ensures { λ r. ⌜ (r ≡ actedBy (onBench (queue (self .bench) from q .bench))
+            (answerText (queue (self .bench) from q .number)) at 0)
+            × (now (out .exit) ≡ laid (now (out .entry)) at (answerText (queue (self .bench) from q .number))) ⌝ }
     {
         let b = self.bench;
-        let q = b.queue(from, to, priority, channel, size);
-        let used = bench::text::put_answer(&mut *out, at, q.number);
-        let bench = q.bench;
+        let r = b.queue(from, q);
+        let used = bench::text::put_answer(&mut *out, at, r.number);
+        let bench = r.bench;
         let session = Session { begun: true, bench };
         Acted {
             session,
@@ -185,13 +174,7 @@ impl Session {
         }
         match l {
             Line::Ring(n) => open(n, &mut *out, at),
-            Line::Queue {
-                from,
-                to,
-                priority,
-                channel,
-                length,
-            } => self.send(from, to, priority, channel, length, &mut *out, at),
+            Line::Queue { from, request } => self.send(from, request, &mut *out, at),
             Line::Step(count) => self.advance(count, &mut *out, at),
             Line::Bad => self.turn_down(&mut *out, at),
         }

@@ -20,6 +20,7 @@ use Rattle.station.specs.Timer.{timerRule}
 use Rattle.station.specs.Queue.{queueRule}
 use Rattle.station.specs.Take.{takeRule}
 use Rattle.parts.specs.declared.moves.Event.the-variants.{Heard}
+use Rattle.parts.specs.declared.request.Request.{Request}
 use Rattle.station.specs.declared.station.Station.{Station}
 use Rattle.station.specs.declared.station.Payload.{Payload}
 use Rattle.station.specs.declared.station.Payload.the-variants.{NoPayload, Of}
@@ -138,14 +139,18 @@ pub record Hearing (rec store : List ℕ) (from to : ℕ) (packet out told : Lis
 
 -- ---- queue
 
-abbrev pub queueAnswer : List ℕ → ℕ → ℕ → ℕ → List ℕ → Answer
-queueAnswer rec to priority channel payload =
-    queueRule (stationIn rec) (position (ringIn rec) to) priority channel (length payload)
+-- what a driver's numbers ask for: its `to` is an address
+abbrev pub requestOf : List ℕ → ℕ → ℕ → ℕ → ℕ → Request
+requestOf ring to priority channel length =
+    record { to = position ring to; priority = priority; channel = channel; length = length }
 
-pub record Queueing (rec store : List ℕ) (to priority channel : ℕ) (payload : List ℕ) (r : ℕ) (rec′ store′ : List ℕ) : Type 0 where
-  pub answer : r ≡ callNumber (badStore (length store)) rec (queueAnswer rec to priority channel payload)
-  pub record-is : rec′ ≡ kept r rec (recordWith rec (queueAnswer rec to priority channel payload .station))
-  pub store-is : store′ ≡ kept r store (queued store (queueAnswer rec to priority channel payload .payload) payload)
+abbrev pub queueAnswer : List ℕ → Request → Answer
+queueAnswer rec q = queueRule (stationIn rec) q
+
+pub record Queueing (rec store : List ℕ) (q : Request) (payload : List ℕ) (r : ℕ) (rec′ store′ : List ℕ) : Type 0 where
+  pub answer : r ≡ callNumber (badStore (length store)) rec (queueAnswer rec q)
+  pub record-is : rec′ ≡ kept r rec (recordWith rec (queueAnswer rec q .station))
+  pub store-is : store′ ≡ kept r store (queued store (queueAnswer rec q .payload) payload)
 
 -- ---- take
 

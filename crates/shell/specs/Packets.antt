@@ -29,16 +29,21 @@ whomAt ring a = pick (eqb a 0) Nobody (Member (position ring a))
 
 -- the packet of a frame
 unfoldable pub packetOf : List ℕ → Frame → Packet
-packetOf ring (Token number priority master failing named) =
-    token priority number (addressOf ring master) (whomAddress ring failing) (addressOf ring named)
-packetOf ring (Transmit number priority master named) = transmit priority number (addressOf ring master) (addressOf ring named)
-packetOf ring (Information number priority channel length place) = information priority number channel length
+packetOf ring (Token t) =
+    token (t .priority) (t .number) (addressOf ring (t .master)) (whomAddress ring (t .failing)) (addressOf ring (t .named))
+packetOf ring (Transmit t) = transmit (t .priority) (t .number) (addressOf ring (t .master)) (addressOf ring (t .named))
+packetOf ring (Information i) = information (i .priority) (i .number) (i .channel) (i .length)
 
 -- the frame of a packet that was read: its channel is at most 7, and the place of its message is its sender's affair
 unfoldable pub frameOf : List ℕ → Packet → Frame
-frameOf ring (TokenOf p) = Token (p .number) (p .priority) (position ring (p .master)) (whomAt ring (p .failing)) (position ring (p .named))
-frameOf ring (TransmitOf p) = Transmit (p .number) (p .priority) (position ring (p .master)) (position ring (p .named))
-frameOf ring (InformationOf h) = Information (h .number) (h .priority) (h .channel % 256) (h .length) 0
+frameOf ring (TokenOf p) =
+    Token
+    (record
+    { number = p .number; priority = p .priority; master = position ring (p .master); failing = whomAt ring (p .failing); named = position ring (p .named) })
+frameOf ring (TransmitOf p) =
+    Transmit (record { number = p .number; priority = p .priority; master = position ring (p .master); named = position ring (p .named) })
+frameOf ring (InformationOf h) =
+    Information (record { number = h .number; priority = h .priority; channel = h .channel % 256; length = h .length; place = 0 })
 
 -- the octets of what is sent, with the information that it carries
 unfoldable pub sentOctets : List ℕ → Dispatch → List ℕ → List ℕ

@@ -45,9 +45,9 @@ taken store (Of m) = inPlace store (receivePlaces + m .place) (m .length)
 
 -- the information of a frame that is sent, from its message's place
 unfoldable pub carriedIn : List ℕ → Frame → List ℕ
-carriedIn store (Token number priority master failing named) = []
-carriedIn store (Transmit number priority master named) = []
-carriedIn store (Information number priority channel length place) = inPlace store place length
+carriedIn store (Token t) = []
+carriedIn store (Transmit t) = []
+carriedIn store (Information i) = inPlace store (i .place) (i .length)
 
 unfoldable pub informationOf : List ℕ → Dispatch → List ℕ
 informationOf store Nothing = []

@@ -25,6 +25,9 @@ use packet_codec::writing::lay_information;
 use packet_codec::writing::lay_short;
 use parts::frame::Dispatch;
 use parts::frame::Frame;
+use parts::frame::InformationFrame;
+use parts::frame::TokenFrame;
+use parts::frame::TransmitFrame;
 use parts::frame::Whom;
 
 // The address of a ring position: 0 where there is no such member.
@@ -67,35 +70,21 @@ pub fn packet_of(ring: &[u64], f: Frame) -> Packet
     ensures { λ r. ⌜ r ≡ packetOf (now (ring .entry)) f ⌝ }
 {
     match f {
-        Frame::Token {
-            number,
-            priority,
-            master,
-            failing,
-            named,
-        } => {
-            let m = address_of(ring, master);
+        Frame::Token(t) => {
+            let failing = t.failing;
+            let m = address_of(ring, t.master);
             let w = whom_address(ring, failing);
-            let n = address_of(ring, named);
-            Packet::token(priority, number, m, w, n)
+            let n = address_of(ring, t.named);
+            Packet::token(t.priority, t.number, m, w, n)
         }
-        Frame::Transmit {
-            number,
-            priority,
-            master,
-            named,
-        } => {
-            let m = address_of(ring, master);
-            let n = address_of(ring, named);
-            Packet::transmit(priority, number, m, n)
+        Frame::Transmit(t) => {
+            let m = address_of(ring, t.master);
+            let n = address_of(ring, t.named);
+            Packet::transmit(t.priority, t.number, m, n)
         }
-        Frame::Information {
-            number,
-            priority,
-            channel,
-            length,
-            place: _,
-        } => Packet::information(priority, number, channel as u16, length),
+        Frame::Information(i) => {
+            Packet::information(i.priority, i.number, i.channel as u16, i.length)
+        }
     }
 }
 
@@ -106,13 +95,13 @@ fn token_of(ring: &[u64], p: Short) -> Frame
     let master = seat(ring, p.master);
     let failing = whom_at(ring, p.failing);
     let named = seat(ring, p.named);
-    Frame::Token {
+    Frame::Token(TokenFrame {
         number: p.number,
         priority: p.priority,
         master,
         failing,
         named,
-    }
+    })
 }
 
 fn transmit_of(ring: &[u64], p: Short) -> Frame
@@ -121,25 +110,25 @@ fn transmit_of(ring: &[u64], p: Short) -> Frame
 {
     let master = seat(ring, p.master);
     let named = seat(ring, p.named);
-    Frame::Transmit {
+    Frame::Transmit(TransmitFrame {
         number: p.number,
         priority: p.priority,
         master,
         named,
-    }
+    })
 }
 
 fn information_frame(h: Head) -> Frame
     ensures { λ r. ⌜ r ≡ frameOf [] (InformationOf h) ⌝ }
 {
     let channel = (h.channel % 256) as u8;
-    Frame::Information {
+    Frame::Information(InformationFrame {
         number: h.number,
         priority: h.priority,
         channel,
         length: h.length,
         place: 0,
-    }
+    })
 }
 
 // The frame of a packet that was read.

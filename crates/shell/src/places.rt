@@ -89,26 +89,9 @@ pub fn carried_in(store: &[u8], f: Frame) -> &[u8]
     ensures { λ r. ⌜ now r ≡ carriedIn (now (store .entry)) f ⌝ }
 {
     match f {
-        Frame::Token {
-            number: _,
-            priority: _,
-            master: _,
-            failing: _,
-            named: _,
-        } => &store[..0],
-        Frame::Transmit {
-            number: _,
-            priority: _,
-            master: _,
-            named: _,
-        } => &store[..0],
-        Frame::Information {
-            number: _,
-            priority: _,
-            channel: _,
-            length,
-            place,
-        } => in_place(store, place as usize, length as usize),
+        Frame::Token(_) => &store[..0],
+        Frame::Transmit(_) => &store[..0],
+        Frame::Information(i) => in_place(store, i.place as usize, i.length as usize),
     }
 }
 

@@ -1,12 +1,28 @@
 // A message is handed over.
-ghost use Rattle.shell.specs.Calls.{Queueing};
+ghost use mathlib.Core.Path.{_≡_};
+ghost use lib.ListN.{length};
+ghost use Rattle.shell.specs.Calls.{ringIn, requestOf, Queueing};
 use crate::places::put_queued;
 use codec::ring::members;
+use parts::request::Request;
 use records::layout::STORE;
 use records::record::ring_into;
 use records::record::save;
 use records::record::station_from;
 use wholeness::whole::is_whole;
+
+// What a driver's numbers ask for: its `to` is an address.
+fn request_of(ring: &[u64], to: u64, priority: usize, channel: usize, length: usize) -> Request
+    ensures { λ r. ⌜ r ≡ requestOf (now (ring .entry)) to priority channel «length» ⌝ }
+{
+    let p = codec::ring::position(ring, to);
+    Request {
+        to: p,
+        priority,
+        channel,
+        length,
+    }
+}
 
 // A message is handed over.
 pub fn queue(
@@ -17,7 +33,7 @@ pub fn queue(
     channel: usize,
     payload: &[u8],
 ) -> u32
-    ensures { λ r. ⌜ Queueing (now (rec .entry)) (now (store .entry)) to priority channel (now (payload .entry)) r (now (rec .exit)) (now (store .exit)) ⌝ }
+    ensures { λ r. ⌜ Queueing (now (rec .entry)) (now (store .entry)) (requestOf (ringIn (now (rec .entry))) to priority channel (length (now (payload .entry)))) (now (payload .entry)) r (now (rec .exit)) (now (store .exit)) ⌝ }
 {
     if store.len() != STORE {
         return 9;
@@ -31,8 +47,8 @@ pub fn queue(
     if !is_whole(s) {
         return 35;
     }
-    let p = codec::ring::position(members(&addresses, n), to);
-    let a = s.queue(p, priority, channel, payload.len());
+    let q = request_of(members(&addresses, n), to, priority, channel, payload.len());
+    let a = s.queue(q);
     if a.number != 0 {
         return a.number;
     }

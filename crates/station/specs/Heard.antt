@@ -13,13 +13,14 @@ use Rattle.plain_rules.specs.Refusals.{heardRefusal}
 use Rattle.station.specs.Stations.{stateOf, awaitedOf, withReceives, withLost, quiet, sending, addUpTo, alone, moved, unless}
 use Rattle.station.specs.Round.{sight}
 use Rattle.plain_rules.specs.Round.{reply}
-use Rattle.station.specs.Strike.{strike, nothingGone, giveUpTo, leave, told, stopped}
+use Rattle.station.specs.Strike.{Struck, strike, nothingGone, giveUpTo, leave, told, stopped}
 use Rattle.plain_rules.specs.Heard.{acknowledges, newly}
 use Rattle.parts.specs.declared.moves.State.the-variants.{Idle, Alone, Excluded}
 use Rattle.parts.specs.declared.moves.Event.the-variants.{Heard}
 use Rattle.parts.specs.declared.list.Message.{Message}
 use Rattle.parts.specs.declared.frame.Whom.{Whom}
 use Rattle.parts.specs.declared.frame.Whom.the-variants.{Nobody, Member}
+use Rattle.parts.specs.declared.frame.InformationFrame.{InformationFrame}
 use Rattle.parts.specs.declared.frame.Frame.{Frame}
 use Rattle.parts.specs.declared.frame.Frame.the-variants.{Token, Transmit, Information}
 use Rattle.parts.specs.declared.frame.Dispatch.{Dispatch}
@@ -30,7 +31,6 @@ use Rattle.station.specs.declared.station.Turn.{Turn}
 use Rattle.station.specs.declared.station.Station.{Station}
 use Rattle.station.specs.declared.station.Payload.the-variants.{NoPayload, Of}
 use Rattle.station.specs.declared.station.Answer.{Answer}
-use Rattle.station.specs.declared.rules.strike.Struck.{Struck}
 use Rattle.station.specs.declared.rules.heard.Stored.{Stored}
 
 -- ---- 1. checks
@@ -92,22 +92,22 @@ nothingMore s to k = stops (s .own) (s .turn) to k
 -- ---- 5. the number is recorded as handled, and a frame is sent with the next number
 
 -- the message of a heard information frame: its other end is the sender; in the lowest free place
-abbrev pub heardMessage : Station → ℕ → ℕ → ℕ → ℕ → Message
-heardMessage s from priority channel length =
-    record { other = from; priority = priority; channel = channel; length = length; place = lowestFree (all (s .receives)) }
+abbrev pub heardMessage : Station → ℕ → InformationFrame → Message
+heardMessage s from i =
+    record { other = from; priority = i .priority; channel = i .channel; length = i .length; place = lowestFree (all (s .receives)) }
 
 -- "stored, or counted lost if 16 are there"
 unfoldable pub receive : Station → Message → Stored
 receive s m =
     pick (leb 16 (s .receives .len))
-    (record { station = withLost s (addUpTo (s .lost) 1); payload = NoPayload })
+    (record { station = withLost s (addUpTo (s .counts .lost) 1); payload = NoPayload })
     (record { station = withReceives s (pushed (s .receives) m); payload = Of m })
 
 -- who stores a heard frame: the addressee, if it is information
 unfoldable pub stored : Station → ℕ → Frame → Stored
-stored s from (Token number priority master failing named) = record { station = s; payload = NoPayload }
-stored s from (Transmit number priority master named) = record { station = s; payload = NoPayload }
-stored s from (Information number priority channel length place) = receive s (heardMessage s from priority channel length)
+stored s from (Token t) = record { station = s; payload = NoPayload }
+stored s from (Transmit t) = record { station = s; payload = NoPayload }
+stored s from (Information i) = receive s (heardMessage s from i)
 
 abbrev pub sendOn : Struck → Stored → ℕ → Dispatch → Answer
 sendOn k t number d =

@@ -3,7 +3,8 @@ pub mod Round
 pub mod Strike
 pub mod Start
 pub mod Heard
-pub mod Light
+pub mod Deeds
+pub mod Decide
 pub mod Timer
 pub mod Queue
 pub mod Take

@@ -24,96 +24,47 @@ use Rattle.parts.specs.declared.frame.Dispatch.the-variants.{Nothing, Sent}
 use Rattle.station.specs.declared.station.Handled.{Handled}
 use Rattle.station.specs.declared.station.Handled.the-variants.{Never, Last}
 use Rattle.station.specs.declared.station.Turn.{Turn}
+use Rattle.station.specs.declared.station.Counts.{Counts}
 use Rattle.station.specs.declared.station.Station.{Station}
 use Rattle.station.specs.declared.station.Payload.{Payload}
 use Rattle.station.specs.declared.station.Payload.the-variants.{NoPayload, Of}
 use Rattle.station.specs.declared.station.Answer.{Answer}
 
--- ---- one field anew
+-- ---- a station of its parts, and one part anew
+
+abbrev pub stationBy : ℕ → ℕ → ℕ → Live → Messages → Messages → Turn → Counts → Station
+stationBy n limit own live sends receives turn counts =
+    record {
+      n = n;
+      limit = limit;
+      own = own;
+      live = live;
+      sends = sends;
+      receives = receives;
+      turn = turn;
+      counts = counts;
+    }
 
 abbrev pub withTurn : Station → Turn → Station
-withTurn s t =
-    record {
-      n = s .n;
-      limit = s .limit;
-      own = s .own;
-      live = s .live;
-      sends = s .sends;
-      receives = s .receives;
-      turn = t;
-      lost = s .lost;
-      givenup = s .givenup;
-    }
+withTurn s t = stationBy (s .n) (s .limit) (s .own) (s .live) (s .sends) (s .receives) t (s .counts)
 
 abbrev pub withLive : Station → Live → Station
-withLive s l =
-    record {
-      n = s .n;
-      limit = s .limit;
-      own = s .own;
-      live = l;
-      sends = s .sends;
-      receives = s .receives;
-      turn = s .turn;
-      lost = s .lost;
-      givenup = s .givenup;
-    }
+withLive s l = stationBy (s .n) (s .limit) (s .own) l (s .sends) (s .receives) (s .turn) (s .counts)
 
 abbrev pub withSends : Station → Messages → Station
-withSends s l =
-    record {
-      n = s .n;
-      limit = s .limit;
-      own = s .own;
-      live = s .live;
-      sends = l;
-      receives = s .receives;
-      turn = s .turn;
-      lost = s .lost;
-      givenup = s .givenup;
-    }
+withSends s l = stationBy (s .n) (s .limit) (s .own) (s .live) l (s .receives) (s .turn) (s .counts)
 
 abbrev pub withReceives : Station → Messages → Station
-withReceives s l =
-    record {
-      n = s .n;
-      limit = s .limit;
-      own = s .own;
-      live = s .live;
-      sends = s .sends;
-      receives = l;
-      turn = s .turn;
-      lost = s .lost;
-      givenup = s .givenup;
-    }
+withReceives s l = stationBy (s .n) (s .limit) (s .own) (s .live) (s .sends) l (s .turn) (s .counts)
+
+abbrev pub withCounts : Station → Counts → Station
+withCounts s c = stationBy (s .n) (s .limit) (s .own) (s .live) (s .sends) (s .receives) (s .turn) c
 
 abbrev pub withLost : Station → ℕ → Station
-withLost s k =
-    record {
-      n = s .n;
-      limit = s .limit;
-      own = s .own;
-      live = s .live;
-      sends = s .sends;
-      receives = s .receives;
-      turn = s .turn;
-      lost = k;
-      givenup = s .givenup;
-    }
+withLost s k = withCounts s (record { lost = k; givenup = s .counts .givenup })
 
 abbrev pub withGivenUp : Station → ℕ → Station
-withGivenUp s k =
-    record {
-      n = s .n;
-      limit = s .limit;
-      own = s .own;
-      live = s .live;
-      sends = s .sends;
-      receives = s .receives;
-      turn = s .turn;
-      lost = s .lost;
-      givenup = k;
-    }
+withGivenUp s k = withCounts s (record { lost = s .counts .lost; givenup = k })
 
 -- ---- what a station stands at
 
@@ -123,20 +74,16 @@ stateOf s = s .turn .state
 abbrev pub awaitedOf : Station → Dispatch
 awaitedOf s = s .turn .awaited
 
+abbrev pub newTurn : Turn
+newTurn = record { state = Offline; awaited = Nothing; handled = Never; retries = 0 }
+
+abbrev pub newCounts : Counts
+newCounts = record { lost = 0; givenup = 0 }
+
 -- Offline at first; all N live; both lists empty; no number handled; no frame awaited; the counts at 0
 abbrev pub made : ℕ → ℕ → ℕ → Station
 made n limit own =
-    record {
-      n = n;
-      limit = limit;
-      own = own;
-      live = full n;
-      sends = none;
-      receives = none;
-      turn = record { state = Offline; awaited = Nothing; handled = Never; retries = 0 };
-      lost = 0;
-      givenup = 0;
-    }
+    stationBy n limit own (full n) none none newTurn newCounts
 
 -- in a state with no frame awaited; the retry count stays
 abbrev pub quietTurn : Turn → State → Turn
@@ -152,13 +99,17 @@ sendingTurn handled d = record { state = Waiting; awaited = d; handled = handled
 abbrev pub sending : Station → Handled → Dispatch → Station
 sending s handled d = withTurn s (sendingTurn handled d)
 
+-- one retry more
+abbrev pub moreTurn : Turn → Turn
+moreTurn t = record { state = t .state; awaited = t .awaited; handled = t .handled; retries = t .retries + 1 }
+
 -- "both counts stop at 4,294,967,295"
 unfoldable pub addUpTo : ℕ → ℕ → ℕ
 addUpTo c k = pick (leb k (4294967295 - c)) (c + k) 4294967295
 
 -- k messages more were given up
 abbrev pub counted : Station → ℕ → Station
-counted s k = withGivenUp s (addUpTo (s .givenup) k)
+counted s k = withGivenUp s (addUpTo (s .counts .givenup) k)
 
 -- nobody else is left
 abbrev pub alone : Station → Bool

@@ -14,8 +14,17 @@ use Rattle.parts.specs.declared.list.Parts.{Parts}
 use Rattle.parts.specs.declared.list.Which.the-variants.{WaitingFor, HasPlace}
 use Rattle.parts.specs.declared.frame.Whom.{Whom}
 use Rattle.station.specs.declared.station.Station.{Station}
-use Rattle.station.specs.declared.rules.strike.Loss.{Loss}
-use Rattle.station.specs.declared.rules.strike.Struck.{Struck}
+
+-- a station and the messages that have left its send list, in order, not counted yet
+pub record Loss : Type 0 where
+  pub station : Station
+  pub gone : Messages
+
+-- a station after a striking: who is newly struck, and the messages given up
+pub record Struck : Type 0 where
+  pub station : Station
+  pub struck : Whom
+  pub gone : Messages
 
 -- `p` is struck from the live set
 abbrev pub strike : Station → ℕ → Station

@@ -1,14 +1,14 @@
 -- "Timer while Waiting."
 use mathlib.Core.Bool.{Bool}
-use Prim.Native.Nat.{ℕ, _+_}
+use Prim.Native.Nat.{ℕ}
 use lib.Dec.{ltb}
 use Rattle.parts.specs.Choose.{pick}
 use Rattle.parts.specs.Messages.{none}
 use Rattle.parts.specs.Frames.{next}
 use Rattle.plain_rules.specs.Resend.{resend}
-use Rattle.station.specs.Stations.{withTurn, awaitedOf, quiet, sending, alone, answered, moved}
+use Rattle.station.specs.Stations.{withTurn, moreTurn, awaitedOf, quiet, sending, alone, answered, moved}
 use Rattle.station.specs.Round.{sight}
-use Rattle.station.specs.Strike.{strike, giveUpTo, giveUpFlight, told}
+use Rattle.station.specs.Strike.{Struck, strike, giveUpTo, giveUpFlight, told}
 use Rattle.plain_rules.specs.Heard.{newly}
 use Rattle.parts.specs.declared.moves.State.the-variants.{Idle, Alone}
 use Rattle.parts.specs.declared.moves.Event.the-variants.{Timer}
@@ -21,15 +21,11 @@ use Rattle.parts.specs.declared.frame.Dispatch.the-variants.{Nothing, Sent}
 use Rattle.station.specs.declared.station.Station.{Station}
 use Rattle.station.specs.declared.station.Payload.the-variants.{NoPayload}
 use Rattle.station.specs.declared.station.Answer.{Answer}
-use Rattle.station.specs.declared.rules.strike.Struck.{Struck}
 
 -- ---- below R: "the same frame goes again, same number, count one more"
 
 abbrev pub onceMore : Station → Station
-onceMore s =
-    withTurn s
-    (record
-    { state = s .turn .state; awaited = s .turn .awaited; handled = s .turn .handled; retries = s .turn .retries + 1 })
+onceMore s = withTurn s (moreTurn (s .turn))
 
 abbrev pub again : Station → Answer
 again s =

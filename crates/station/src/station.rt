@@ -1,17 +1,14 @@
 // The station and what a call answers.
 ghost use mathlib.Core.Path.{_≡_};
+ghost use Prim.Native.Nat.{_<_};
 ghost use Rattle.station.specs.Stations.{
   made,
-  withTurn,
-  withLive,
   withSends,
   withReceives,
   quietTurn,
-  quiet,
   sendingTurn,
-  sending,
+  moreTurn,
   addUpTo,
-  counted,
   answered,
   alone,
 };
@@ -36,6 +33,12 @@ pub struct Turn {
     pub retries: u8,
 }
 
+// Messages lost at a full receive list, and messages given up.
+pub struct Counts {
+    pub lost: u32,
+    pub givenup: u32,
+}
+
 // A station of a ring of `n` with the retry limit `limit`, at the position `own`.
 pub struct Station {
     pub n: u8,
@@ -45,8 +48,7 @@ pub struct Station {
     pub sends: Messages,
     pub receives: Messages,
     pub turn: Turn,
-    pub lost: u32,
-    pub givenup: u32,
+    pub counts: Counts,
 }
 
 // Whose payload a call moves, or none: queue and frame put it into the message's place, take hands it out.
@@ -64,22 +66,6 @@ pub struct Answer {
     pub struck: Whom,
     pub gone: Messages,
     pub payload: Payload,
-}
-
-pub fn with_turn(s: Station, t: Turn) -> Station
-    ensures { λ r. ⌜ r ≡ withTurn s t ⌝ }
-{
-    let mut o = s;
-    o.turn = t;
-    o
-}
-
-pub fn with_live(s: Station, l: Live) -> Station
-    ensures { λ r. ⌜ r ≡ withLive s l ⌝ }
-{
-    let mut o = s;
-    o.live = l;
-    o
 }
 
 pub fn with_sends(s: Station, l: Messages) -> Station
@@ -111,13 +97,6 @@ pub fn resting(t: Turn, state: State) -> Turn
     }
 }
 
-pub fn at_rest(s: Station, state: State) -> Station
-    ensures { λ r. ⌜ r ≡ quiet s state ⌝ }
-{
-    let u = resting(s.turn, state);
-    with_turn(s, u)
-}
-
 // Waiting for the acknowledgement of `d`, with `handled` as the last handled number.
 pub fn waiting(handled: Handled, d: Dispatch) -> Turn
     ensures { λ r. ⌜ r ≡ sendingTurn handled d ⌝ }
@@ -130,11 +109,21 @@ pub fn waiting(handled: Handled, d: Dispatch) -> Turn
     }
 }
 
-pub fn sends_out(s: Station, handled: Handled, d: Dispatch) -> Station
-    ensures { λ r. ⌜ r ≡ sending s handled d ⌝ }
+// One retry more, below the limit.
+pub fn more_turn(t: Turn) -> Turn
+    requires { ⌜ t .retries < 255 ⌝ }
+    ensures { λ r. ⌜ r ≡ moreTurn t ⌝ }
 {
-    let u = waiting(handled, d);
-    with_turn(s, u)
+    let state = t.state;
+    let awaited = t.awaited;
+    let handled = t.handled;
+    let retries = t.retries + 1;
+    Turn {
+        state,
+        awaited,
+        handled,
+        retries,
+    }
 }
 
 // `k` more, up to 4,294,967,295.
@@ -147,16 +136,6 @@ pub fn add_up_to(c: u32, k: usize) -> u32
     } else {
         4294967295
     }
-}
-
-// `k` more messages given up.
-pub fn count_given_up(s: Station, k: usize) -> Station
-    ensures { λ r. ⌜ r ≡ counted s k ⌝ }
-{
-    let g = add_up_to(s.givenup, k);
-    let mut o = s;
-    o.givenup = g;
-    o
 }
 
 // An answer of a number alone.
@@ -195,6 +174,10 @@ impl Station {
             handled: Handled::Never,
             retries: 0,
         };
+        let counts = Counts {
+            lost: 0,
+            givenup: 0,
+        };
         Station {
             n,
             limit,
@@ -203,8 +186,7 @@ impl Station {
             sends,
             receives,
             turn,
-            lost: 0,
-            givenup: 0,
+            counts,
         }
     }
 }

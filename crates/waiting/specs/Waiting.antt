@@ -11,6 +11,7 @@ use Rattle.parts.specs.Messages.{all, flies, lowestFree}
 use Rattle.parts.specs.Frames.{flight}
 use Rattle.station.specs.Stations.{awaitedOf}
 use Rattle.parts.specs.declared.list.Message.{Message}
+use Rattle.parts.specs.declared.request.Request.{Request}
 use Rattle.bench.specs.Ring.{stationAt, ringWith}
 use Rattle.bench.specs.Delivery.{step}
 use Rattle.bench.specs.Calls.{queue}
@@ -44,13 +45,13 @@ own x w = eqb (w .from) (x .station) && (flight (w .sent) .on && eqb (flight (w 
 unfoldable pub before : Spot → Bench → List Event → List Row
 before x b [] = []
 before x b (stepped ∷ es) = pick (own x (step b .wire)) [] (rowsOn (step b .wire) ++ before x (step b) es)
-before x b (queued from to priority channel length ∷ es) = before x (afterEvent b (queued from to priority channel length)) es
+before x b (queued from q ∷ es) = before x (afterEvent b (queued from q)) es
 
 -- whether its own is composed
 unfoldable pub goes : Spot → Bench → List Event → Bool
 goes x b [] = false
 goes x b (stepped ∷ es) = pick (own x (step b .wire)) true (goes x (step b) es)
-goes x b (queued from to priority channel length ∷ es) = goes x (afterEvent b (queued from to priority channel length)) es
+goes x b (queued from q ∷ es) = goes x (afterEvent b (queued from q)) es
 
 -- ---- what is asked of it
 
@@ -72,8 +73,8 @@ Until false later = later
 unfoldable pub StaysOnTop : Spot → ℕ → Bench → List Event → Type 0
 StaysOnTop x priority b [] = OnTop x priority b
 StaysOnTop x priority b (stepped ∷ es) = OnTop x priority b × Until (own x (step b .wire)) (StaysOnTop x priority (step b) es)
-StaysOnTop x priority b (queued from to level channel length ∷ es) =
-    OnTop x priority b × StaysOnTop x priority (afterEvent b (queued from to level channel length)) es
+StaysOnTop x priority b (queued from q ∷ es) =
+    OnTop x priority b × StaysOnTop x priority (afterEvent b (queued from q)) es
 
 -- ---- what is counted, by the frames' kinds
 
@@ -116,6 +117,13 @@ pub record WithinBound (n : ℕ) (x : Spot) (b : Bench) (after : List Event) : T
 -- "for every N from 3 up some run reaches both figures"
 abbrev pub fewest : ℕ
 fewest = 3
+
+-- in it the message and the foreign one are for station 1: one of no octets, one as long as one can be
+abbrev pub itsRequest : Request
+itsRequest = record { to = 1; priority = 9; channel = 0; length = 0 }
+
+abbrev pub foreignRequest : Request
+foreignRequest = record { to = 1; priority = 5; channel = 0; length = 1492 }
 
 -- a run that reaches both
 pub record ReachesBound (n : ℕ) (x : Spot) (b : Bench) (after : List Event) : Type 0 where

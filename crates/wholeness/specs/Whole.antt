@@ -19,6 +19,7 @@ use Rattle.parts.specs.declared.list.Messages.{Messages}
 use Rattle.parts.specs.declared.list.Flight.{Flight}
 use Rattle.parts.specs.declared.list.Best.{Best}
 use Rattle.parts.specs.declared.list.Which.the-variants.{HasPlace}
+use Rattle.parts.specs.declared.frame.InformationFrame.{InformationFrame}
 use Rattle.parts.specs.declared.frame.Frame.{Frame}
 use Rattle.parts.specs.declared.frame.Frame.the-variants.{Token, Transmit, Information}
 use Rattle.parts.specs.declared.frame.Dispatch.{Dispatch}
@@ -113,20 +114,20 @@ waitersGood st l f ms = pick (isExcluded st) true (every (waitsWell l f) ms)
 -- ---- a frame is awaited exactly when Waiting, fit to write and to another member; a message is in flight exactly when that frame
 -- is its information frame
 
-unfoldable pub sameMessage : Best → ℕ → ℕ → ℕ → ℕ → Bool
-sameMessage b to priority channel length =
+unfoldable pub sameMessage : Best → ℕ → InformationFrame → Bool
+sameMessage b to i =
     allOf
     (b .some
     ∷ eqb (b .message .other) to
-    ∷ eqb (b .message .priority) priority
-    ∷ eqb (b .message .channel) channel
-    ∷ eqb (b .message .length) length
+    ∷ eqb (b .message .priority) (i .priority)
+    ∷ eqb (b .message .channel) (i .channel)
+    ∷ eqb (b .message .length) (i .length)
     ∷ [])
 
 unfoldable pub carried : Messages → Frame → ℕ → Bool
-carried l (Token number priority master failing named) to = true
-carried l (Transmit number priority master named) to = true
-carried l (Information number priority channel length place) to = sameMessage (best (HasPlace place) l) to priority channel length
+carried l (Token t) to = true
+carried l (Transmit t) to = true
+carried l (Information i) to = sameMessage (best (HasPlace (i .place)) l) to i
 
 unfoldable pub awaitedGood : State → ℕ → ℕ → Messages → Dispatch → Bool
 awaitedGood st n own l Nothing = not (isWaiting st)

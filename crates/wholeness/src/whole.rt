@@ -26,6 +26,7 @@ ghost use Rattle.wholeness.specs.Whole.{
 use codec::sizes::INFORMATION;
 use parts::frame::Dispatch;
 use parts::frame::Frame;
+use parts::frame::InformationFrame;
 use parts::list::Best;
 use parts::list::Flight;
 use parts::list::Message;
@@ -221,8 +222,8 @@ pub fn waiters_good(state: State, live: Live, f: Flight, l: Messages) -> bool
     all_wait_well(live, f, l)
 }
 
-pub fn same_message(b: Best, to: u8, priority: u8, channel: u8, length: u16) -> bool
-    ensures { λ r. ⌜ r ≡ sameMessage b to priority channel length ⌝ }
+pub fn same_message(b: Best, to: u8, i: InformationFrame) -> bool
+    ensures { λ r. ⌜ r ≡ sameMessage b to i ⌝ }
 {
     if !b.some {
         return false;
@@ -231,13 +232,13 @@ pub fn same_message(b: Best, to: u8, priority: u8, channel: u8, length: u16) -> 
     if m.other != to {
         return false;
     }
-    if m.priority != priority {
+    if m.priority != i.priority {
         return false;
     }
-    if m.channel != channel {
+    if m.channel != i.channel {
         return false;
     }
-    if m.length != length {
+    if m.length != i.length {
         return false;
     }
     true
@@ -247,29 +248,12 @@ pub fn is_carried(l: Messages, f: Frame, to: u8) -> bool
     ensures { λ r. ⌜ r ≡ carried l f to ⌝ }
 {
     match f {
-        Frame::Token {
-            number: _,
-            priority: _,
-            master: _,
-            failing: _,
-            named: _,
-        } => true,
-        Frame::Transmit {
-            number: _,
-            priority: _,
-            master: _,
-            named: _,
-        } => true,
-        Frame::Information {
-            number: _,
-            priority,
-            channel,
-            length,
-            place,
-        } => {
-            let w = Which::HasPlace(place);
+        Frame::Token(_) => true,
+        Frame::Transmit(_) => true,
+        Frame::Information(i) => {
+            let w = Which::HasPlace(i.place);
             let b = parts::list::choose(l, w);
-            same_message(b, to, priority, channel, length)
+            same_message(b, to, i)
         }
     }
 }

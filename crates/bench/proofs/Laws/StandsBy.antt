@@ -8,6 +8,7 @@ use Rattle.parts.specs.Choose.{pick}
 use Rattle.parts.specs.Moves.{isWaiting}
 use Rattle.parts.specs.Messages.{none}
 use Rattle.parts.specs.Frames.{numberOf, failingOf}
+use Rattle.station.specs.Strike.{Struck}
 use Rattle.station.specs.Stations.{stateOf, answered, moved, unless}
 use Rattle.station.specs.Heard.{acknowledged, acknowledge, failed, nothingMore, silent, respond, heard, checks, frameRule}
 use Rattle.parts.specs.declared.moves.Event.{Event}
@@ -18,7 +19,6 @@ use Rattle.parts.specs.declared.frame.Dispatch.{Dispatch}
 use Rattle.parts.specs.declared.frame.Dispatch.the-variants.{Nothing, Sent}
 use Rattle.station.specs.declared.station.Station.{Station}
 use Rattle.station.specs.declared.station.Answer.{Answer}
-use Rattle.station.specs.declared.rules.strike.Struck.{Struck}
 use Rattle.parts.proofs.Laws.Choose.{pick-true, pick-false}
 use Rattle.bench.specs.Delivery.{isNobody}
 

@@ -10,7 +10,6 @@ use borrow.Author.Tests.{lt-ltb, le-ltb, ltb-true, ltb-false}
 use Rattle.codec.specs.Octets.{laid}
 use Rattle.parts.specs.Live.{seats}
 use Rattle.parts.specs.declared.frame.Frame.{Frame}
-use Rattle.parts.specs.declared.frame.Frame.the-variants.{Transmit}
 use Rattle.parts.specs.declared.frame.Dispatch.{Dispatch}
 use Rattle.parts.specs.declared.frame.Dispatch.the-variants.{Nothing, Sent}
 use Rattle.parts.proofs.Laws.Choose.{pick-true, pick-false, pick-and}
@@ -20,7 +19,7 @@ use Rattle.bench.specs.Delivery.{isQuiet, handed, delivered, step, steps
 use Rattle.bench.specs.Rows.{rowsOn}
 use Rattle.bench.specs.Text.{rowsText}
 use Rattle.bench.specs.Running.{stepsText, ran}
-use Rattle.bench.specs.Table.{hears, benchIn, handingBy, handingOf, isSent, goesOn, stepText, printed, wentOn, stepped}
+use Rattle.bench.specs.Table.{hears, benchIn, noFrame, handingBy, handingOf, isSent, goesOn, stepText, printed, wentOn, stepped}
 use Rattle.bench.specs.declared.ring.Wire.{Wire}
 use Rattle.bench.specs.declared.ring.Bench.{Bench}
 use Rattle.bench.specs.declared.running.Ran.{Ran}
@@ -51,7 +50,7 @@ module _ (g : Going) (m : ℕ) (size : m ≡ seats (g .n)) where
       → handingWith (g .n) m f quiet (g .wire .from) to ≡ handingOf g
   handing-sent f to quiet e q = rw (size, q) (ap (handingBy g) (sym e))
 
-  pub handing-none : g .wire .sent ≡ Nothing → handingWith (g .n) m (Transmit 0 0 0 0) true 0 0 ≡ handingOf g
+  pub handing-none : g .wire .sent ≡ Nothing → handingWith (g .n) m noFrame true 0 0 ≡ handingOf g
   handing-none e = rw size (ap (handingBy g) (sym e))
 
 -- as `hand` asks for it

@@ -41,9 +41,9 @@ role from to p = go (eqb p from) refl (eqb p to) refl
     go false x false y = overhears (eqb-false p to y) (eqb-false p from x)
 
 pub nobody-failing : {n from to : ℕ} {f : Frame} → Phase n from to f → failingOf f ≡ Nobody
-nobody-failing (token k pr m nm a b) = refl
-nobody-failing (transmit k pr nm a) = refl
-nobody-failing (information k pr c l pl) = refl
+nobody-failing (token t w a b) = w
+nobody-failing (transmit t m a) = refl
+nobody-failing (information i) = refl
 
 -- everybody but the sender is Idle or acknowledged
 pub stands-listens : {from before : ℕ} {f : Frame} {to p : ℕ} {s : Station} → (p ≡ from → ⊥) → Stands from before f to p s → Listens from (numberOf f) s

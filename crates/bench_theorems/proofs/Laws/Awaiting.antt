@@ -43,11 +43,11 @@ module _ {n limit p : ℕ} {s : Station} (m : Member n limit p s) {f : Frame} {t
 -- what is offered is still there where no head has become lower
 pub still-offers : {n : ℕ} {f : Frame} (heads later : ℕ → ℕ) → fit n f ≡ true → (flightIn f ≡ noFlight → (q : ℕ) → q < n → heads q ≤ later q)
     → Offers heads f → Offers later f
-still-offers heads later e w (no-bid k pr m x nm a b) = no-bid k pr m x nm a b
-still-offers {n} heads later e w (bid k pr m x nm a b) =
+still-offers heads later e w (no-bid t a b) = no-bid t a b
+still-offers {n} heads later e w (bid t a b) =
     let u = passes (passes e .1) in
-    bid k pr m x nm a (omega (arith, w refl nm (leb-false n nm (u .0))))
-still-offers {n} heads later e w (granted k pr m nm a b) =
+    bid t a (omega (arith, w refl (t .named) (leb-false n (t .named) (u .0))))
+still-offers {n} heads later e w (granted t a b) =
     let u = passes (passes e .1) in
-    granted k pr m nm a (omega (arith, w refl nm (ltb-true nm n (u .1))))
-still-offers heads later e w (sent k pr c l pl) = sent k pr c l pl
+    granted t a (omega (arith, w refl (t .named) (ltb-true (t .named) n (u .1))))
+still-offers heads later e w (sent i) = sent i

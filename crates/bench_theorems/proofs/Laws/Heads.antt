@@ -84,9 +84,9 @@ left-all s p = pack-all (only (others p) (all (s .sends)))
 
 no-flight : (d : Dispatch) → flight d .on ≡ false → flight d ≡ noFlight
 no-flight Nothing e = refl
-no-flight (Sent (Token number priority master failing named) to) e = refl
-no-flight (Sent (Transmit number priority master named) to) e = refl
-no-flight (Sent (Information number priority channel length place) to) e = absurd (false≢true (sym e))
+no-flight (Sent (Token t) to) e = refl
+no-flight (Sent (Transmit t) to) e = refl
+no-flight (Sent (Information i) to) e = absurd (false≢true (sym e))
 
 a-flight : (f : Flight) → f .on ≡ true → f ≡ flown (f .place)
 a-flight f e = ap (λ (t : Bool). let r : Flight = record { on = t; place = f .place } in r) e

@@ -65,7 +65,7 @@ receive-storing s m = go (leb 16 (s .receives .len))
     go : (b : Bool)
         → Storing s
         (pick {A = Stored} b
-        (record { station = withLost s (addUpTo (s .lost) 1); payload = NoPayload })
+        (record { station = withLost s (addUpTo (s .counts .lost) 1); payload = NoPayload })
         (record { station = withReceives s (pushed (s .receives) m); payload = Of m })
         .station)
     go true = record { same-n = refl; same-limit = refl; same-own = refl; same-live = refl; same-sends = refl; same-turn = refl }
@@ -73,9 +73,9 @@ receive-storing s m = go (leb 16 (s .receives .len))
 
 pub stored-storing : (s : Station) (from : ℕ) (f : Frame) → Storing s (stored s from f .station)
 unfolding stored
-stored-storing s from (Token number priority master failing named) = record { same-n = refl; same-limit = refl; same-own = refl; same-live = refl; same-sends = refl; same-turn = refl }
-stored-storing s from (Transmit number priority master named) = record { same-n = refl; same-limit = refl; same-own = refl; same-live = refl; same-sends = refl; same-turn = refl }
-stored-storing s from (Information number priority channel length place) = receive-storing s (heardMessage s from priority channel length)
+stored-storing s from (Token t) = record { same-n = refl; same-limit = refl; same-own = refl; same-live = refl; same-sends = refl; same-turn = refl }
+stored-storing s from (Transmit t) = record { same-n = refl; same-limit = refl; same-own = refl; same-live = refl; same-sends = refl; same-turn = refl }
+stored-storing s from (Information i) = receive-storing s (heardMessage s from i)
 
 -- ---- the frame heard
 

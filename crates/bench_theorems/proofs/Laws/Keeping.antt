@@ -21,6 +21,7 @@ use Rattle.parts.specs.declared.list.Message.{Message}
 use Rattle.parts.specs.declared.list.Best.{Best}
 use Rattle.parts.specs.declared.list.Which.{Which}
 use Rattle.parts.specs.declared.list.Which.the-variants.{AnyWaiting}
+use Rattle.parts.specs.declared.request.Request.{Request}
 use Rattle.station.specs.declared.station.Station.{Station}
 use Rattle.parts.proofs.Laws.Messages.{best-none, best-more}
 use Rattle.plain_rules.proofs.Laws.Queue.{queue-good}
@@ -67,28 +68,28 @@ head-pushed s m full room =
     ∙ best-none w _ in
     omega (arith, ap priorityOf e, better-rises w (best w (s .sends)) m)
 
-module _ (s : Station) (whole : WholeStation s) (to priority channel length′ : ℕ) where
-  accepted-keeps : queueNumber s to priority channel length′ ≡ 0 → Keeps s (accepted s to priority channel length′ .station)
+module _ (s : Station) (whole : WholeStation s) (q : Request) where
+  accepted-keeps : queueNumber s q ≡ 0 → Keeps s (accepted s q .station)
   unfolding accepted
   accepted-keeps z =
-      let g = queue-good (s .n) (s .own) (liveAt (s .live) to) (s .sends .len) to priority channel length′ z in
+      let g = queue-good (s .n) (s .own) (liveAt (s .live) (q .to)) (s .sends .len) q z in
       record {
         same-n = refl;
         same-limit = refl;
         same-own = refl;
         same-live = refl;
         same-turn = refl;
-        rises = head-pushed s (newMessage s to priority channel length′) (whole .shaped .sends) (g .room);
+        rises = head-pushed s (newMessage s q) (whole .shaped .sends) (g .room);
       }
 
-  pub queue-keeps : Keeps s (queueRule s to priority channel length′ .station)
+  pub queue-keeps : Keeps s (queueRule s q .station)
   unfolding queueRule moved unless pick
-  queue-keeps = go (eqb (moveOf (stateOf s) Queue) runs) (eqb (queueNumber s to priority channel length′) 0) refl
+  queue-keeps = go (eqb (moveOf (stateOf s) Queue) runs) (eqb (queueNumber s q) 0) refl
     where
-      go : (a b : Bool) → eqb (queueNumber s to priority channel length′) 0 ≡ b
+      go : (a b : Bool) → eqb (queueNumber s q) 0 ≡ b
           → Keeps s
           (pick a
-          (pick b (accepted s to priority channel length′) (answered s (queueNumber s to priority channel length′)))
+          (pick b (accepted s q) (answered s (queueNumber s q)))
           (answered s (moveOf (stateOf s) Queue))
           .station)
       go false b e = keeps-all s

@@ -11,6 +11,7 @@ use Rattle.parts.specs.Choose.{pick}
 use Rattle.parts.specs.Live.{seats}
 use Rattle.station.specs.Queue.{queueRule}
 use Rattle.parts.specs.declared.frame.Frame.{Frame}
+use Rattle.parts.specs.declared.request.Request.{Request}
 use Rattle.station.specs.declared.station.Turn.{Turn}
 use Rattle.station.specs.declared.station.Station.{Station}
 use Rattle.station.specs.declared.station.Answer.{Answer}
@@ -97,12 +98,12 @@ module _ {limit : ℕ} (b : Bench) (q : Quiet limit b) (p : ℕ) (place : p < b 
         picture = picture-still (q .picture) (stationAt (withStation b p s)) anew;
       }
 
-pub quiet-queue : {limit : ℕ} (b : Bench) → Quiet limit b → (from to priority channel length′ : ℕ) → Quiet limit (queue b from to priority channel length′ .bench)
+pub quiet-queue : {limit : ℕ} (b : Bench) → Quiet limit b → (from : ℕ) (r : Request) → Quiet limit (queue b from r .bench)
 unfolding queue pick
-quiet-queue {limit} b q from to priority channel length′ = go (leb (seats (b .n)) from) refl
+quiet-queue {limit} b q from r = go (leb (seats (b .n)) from) refl
   where
     a : Answer
-    a = queueRule (stationAt b from) to priority channel length′
+    a = queueRule (stationAt b from) r
 
     go : (t : Bool) → leb (seats (b .n)) from ≡ t → Quiet limit (pick {A = Queued} t (record { bench = b; number = 15 }) (queueAt b from a) .bench)
     go true e = q
@@ -111,16 +112,16 @@ quiet-queue {limit} b q from to priority channel length′ = go (leb (seats (b .
         let whole = q .picture .members from inside .whole in
         quiet-anew b q from inside (a .station)
         (record {
-          keeps = queue-keeps (stationAt b from) whole to priority channel length′;
-          whole = queue-keeps-whole (stationAt b from) to priority channel length′ whole;
+          keeps = queue-keeps (stationAt b from) whole r;
+          whole = queue-keeps-whole (stationAt b from) r whole;
         })
 
 -- the frame on the wire stays
-pub queue-wire : (b : Bench) (from to priority channel length′ : ℕ) → queue b from to priority channel length′ .bench .wire ≡ b .wire
+pub queue-wire : (b : Bench) (from : ℕ) (r : Request) → queue b from r .bench .wire ≡ b .wire
 unfolding queue pick
-queue-wire b from to priority channel length′ = go (leb (seats (b .n)) from)
+queue-wire b from r = go (leb (seats (b .n)) from)
   where
     go : (t : Bool)
-        → pick {A = Queued} t (record { bench = b; number = 15 }) (queueAt b from (queueRule (stationAt b from) to priority channel length′)) .bench .wire ≡ b .wire
+        → pick {A = Queued} t (record { bench = b; number = 15 }) (queueAt b from (queueRule (stationAt b from) r)) .bench .wire ≡ b .wire
     go true = refl
     go false = refl

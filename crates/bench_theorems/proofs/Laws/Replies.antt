@@ -8,7 +8,7 @@ use borrow.Author.Tests.{eqb-true, eqb-false}
 use Rattle.parts.specs.Choose.{pick}
 use Rattle.parts.specs.Live.{after}
 use Rattle.parts.specs.Frames.{numberOf, next}
-use Rattle.plain_rules.specs.Round.{priorityOf, startRound, informationOf, sendHead}
+use Rattle.plain_rules.specs.Round.{priorityOf, opening, carrying, startRound, informationOf, sendHead}
 use Rattle.parts.specs.declared.list.Best.{Best}
 use Rattle.parts.specs.declared.list.Message.{Message}
 use Rattle.parts.specs.declared.frame.Whom.{Whom}
@@ -41,37 +41,37 @@ first-of P true x y p q = p refl
 first-of P false x y p q = q refl
 
 -- a token in its own name offers what its master has
-own-offer : (heads : ℕ → ℕ) (k pr p : ℕ) (w : Whom) → heads p ≡ pr → Offers heads (Token k pr p w p)
-own-offer heads k pr p w e = go (eqb pr 0) refl
+own-offer : (heads : ℕ → ℕ) (p pr k : ℕ) (w : Whom) → heads p ≡ pr → Offers heads (Token (opening p pr k w))
+own-offer heads p pr k w e = go (eqb pr 0) refl
   where
-    go : (b : Bool) → eqb pr 0 ≡ b → Offers heads (Token k pr p w p)
-    go true t = no-bid k pr p w p (eqb-true pr 0 t) refl
-    go false t = let some : pr ≡ 0 → ⊥ = eqb-false pr 0 t in bid k pr p w p (omega (arith, some)) (omega arith)
+    go : (b : Bool) → eqb pr 0 ≡ b → Offers heads (Token (opening p pr k w))
+    go true t = no-bid (opening p pr k w) (eqb-true pr 0 t) refl
+    go false t = let some : pr ≡ 0 → ⊥ = eqb-false pr 0 t in bid (opening p pr k w) (omega (arith, some)) (omega arith)
 
 module _ (n p : ℕ) (place : p < n) (h : Best) (from : ℕ) (f : Frame) where
   pub round-replied : ((q : ℕ) → longest n from f q ≤ n + 2) → Replied n from f p h (startRound (view n p h) (next (numberOf f)) Nobody)
   unfolding startRound
   round-replied few =
       record {
-        frame = Token (next (numberOf f)) (priorityOf h) p Nobody p;
+        frame = Token (opening p (priorityOf h) (next (numberOf f)) Nobody);
         to = after n p;
         sent = refl;
         number = refl;
-        phase = token (next (numberOf f)) (priorityOf h) p p refl (omega arith);
-        longer = λ q m o. omega (arith, few q, longest-round n p (next (numberOf f)) (priorityOf h) Nobody p q place m o);
-        offers = λ heads e x. own-offer heads (next (numberOf f)) (priorityOf h) p Nobody e;
+        phase = token (opening p (priorityOf h) (next (numberOf f)) Nobody) refl refl (omega arith);
+        longer = λ q m o. omega (arith, few q, longest-round n p (priorityOf h) (next (numberOf f)) Nobody q place m o);
+        offers = λ heads e x. own-offer heads p (priorityOf h) (next (numberOf f)) Nobody e;
       }
 
   information-replied : ((q : ℕ) → longest n from f q ≤ n + 1) → (m : Message) → Replied n from f p h (informationOf (next (numberOf f)) m)
   information-replied few m =
       record {
-        frame = Information (next (numberOf f)) (m .priority) (m .channel) (m .length) (m .place);
+        frame = Information (carrying (next (numberOf f)) m);
         to = m .other;
         sent = refl;
         number = refl;
-        phase = information (next (numberOf f)) (m .priority) (m .channel) (m .length) (m .place);
-        longer = λ q i o. omega (arith, few q, longest-information n p (next (numberOf f)) (m .priority) (m .channel) (m .length) (m .place) q);
-        offers = λ heads e x. sent (next (numberOf f)) (m .priority) (m .channel) (m .length) (m .place);
+        phase = information _;
+        longer = λ q i o. omega (arith, few q, longest-information n p (carrying (next (numberOf f)) m) q);
+        offers = λ heads e x. sent _;
       }
 
   pub send-replied : ((q : ℕ) → longest n from f q ≤ n + 1) → Replied n from f p h (sendHead (view n p h) (next (numberOf f)))

@@ -3,6 +3,8 @@ use mathlib.Core.Path.{_≡_, refl, sym, ap, subst, _∙_}
 use Prim.Native.Nat.{ℕ, _<_, _≤_}
 use native.Mathlib.Omega.{arith}
 use Rattle.parts.specs.Live.{after}
+use Rattle.plain_rules.specs.Round.{opening}
+use Rattle.parts.specs.declared.frame.Whom.the-variants.{Nobody}
 use Rattle.parts.specs.declared.frame.Dispatch.the-variants.{Sent}
 use Rattle.station.specs.declared.station.Station.{Station}
 use Rattle.bench.specs.Ring.{stationAt, ringWith}
@@ -37,8 +39,8 @@ module _ (n limit : ℕ) (two : 2 ≤ n) (most : n ≤ 64) (low : 1 ≤ limit) (
         addressee-member = proper .member;
         another = proper .another;
         fits = proper .fits;
-        phase = token 0 0 0 0 refl (omega arith);
-        offers = no-bid 0 0 0 _ 0 refl refl;
+        phase = token (opening 0 0 0 Nobody) refl refl (omega arith);
+        offers = no-bid (opening 0 0 0 Nobody) refl refl;
         before = 0;
         before-member = omega arith;
         first = λ e. refl;

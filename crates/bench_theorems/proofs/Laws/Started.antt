@@ -10,7 +10,7 @@ use Rattle.parts.specs.Messages.{best, bestOf}
 use Rattle.parts.specs.Live.{after}
 use Rattle.station.specs.Stations.{made, quiet, answered, head}
 use Rattle.station.specs.Round.{sight}
-use Rattle.plain_rules.specs.Round.{startRound}
+use Rattle.plain_rules.specs.Round.{opening, startRound}
 use Rattle.station.specs.Start.{sentFirst, started, startRule}
 use Rattle.parts.specs.declared.moves.State.the-variants.{Idle}
 use Rattle.parts.specs.declared.moves.Event.the-variants.{Start}
@@ -32,7 +32,7 @@ use Rattle.bench_theorems.proofs.Laws.FullSet.{full-successor}
 
 -- "Station 0 starts a round with frame number 0"
 abbrev pub firstFrame : Frame
-firstFrame = Token 0 0 0 Nobody 0
+firstFrame = Token (opening 0 0 0 Nobody)
 
 module _ (n limit : ℕ) (two : 2 ≤ n) (most : n ≤ 64) where
   starts : (p : ℕ) → firstAnswer n limit p ≡ started (made n limit p)

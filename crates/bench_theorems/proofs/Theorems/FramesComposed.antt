@@ -46,8 +46,8 @@ frames-length b q [] = refl
 frames-length b q (stepped ∷ es) =
     length-append (rowsOn (step b .wire)) (frames (afterEvent b stepped) es)
     ∙ omega (arith, one-composed b q, frames-length (afterEvent b stepped) (quiet-event b q stepped) es)
-frames-length b q (queued from to priority channel len ∷ es) =
-    frames-length (afterEvent b (queued from to priority channel len)) (quiet-event b q (queued from to priority channel len)) es
+frames-length b q (queued from r ∷ es) =
+    frames-length (afterEvent b (queued from r)) (quiet-event b q (queued from r)) es
 
 pub frames-composed : (n limit : ℕ) → 2 ≤ n → n ≤ 64 → 1 ≤ limit → limit ≤ 15 → (es : List Event) → length (frames (ringWith n limit) es) ≡ stepsIn es
 frames-composed n limit two most low high es = frames-length (ringWith n limit) (quiet-start n limit two most low high) es

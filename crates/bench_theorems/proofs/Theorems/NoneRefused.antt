@@ -20,6 +20,7 @@ use Rattle.parts.specs.declared.moves.Event.the-variants.{Queue}
 use Rattle.parts.specs.declared.live.Live.{Live}
 use Rattle.parts.specs.declared.frame.Frame.{Frame}
 use Rattle.parts.specs.declared.frame.Dispatch.the-variants.{Sent}
+use Rattle.parts.specs.declared.request.Request.{Request}
 use Rattle.station.specs.declared.station.Station.{Station}
 use Rattle.station.specs.declared.station.Answer.{Answer}
 use Rattle.station.proofs.Laws.Moved.{moved-runs}
@@ -70,9 +71,9 @@ no-start-refused n limit two most low high p h = begun n limit two most low high
 
 -- ---- queue calls
 
-pub record OwnNumber (n : ℕ) (b : Bench) (from to priority channel length : ℕ) : Type 0 where
-  pub outside : n ≤ from → queue b from to priority channel length .number ≡ 15
-  pub inside : from < n → queue b from to priority channel length .number ≡ queueRefusal n from true (stationAt b from .sends .len) to priority channel length
+pub record OwnNumber (n : ℕ) (b : Bench) (from : ℕ) (r : Request) : Type 0 where
+  pub outside : n ≤ from → queue b from r .number ≡ 15
+  pub inside : from < n → queue b from r .number ≡ queueRefusal n from true (stationAt b from .sends .len) r
 
 unless-number : (s : Station) (k : ℕ) (a : Answer) → a .number ≡ 0 → unless s k a .number ≡ k
 unfolding unless pick
@@ -88,43 +89,43 @@ queues (sender e w a) = ap (λ (st : State). moveOf st Queue) w
 queues (last-sender o e w g a k) = ap (λ (st : State). moveOf st Queue) w
 queues (at-rest o e i) = ap (λ (st : State). moveOf st Queue) i
 
-queue-number : (s : Station) (to priority channel length : ℕ) → moveOf (stateOf s) Queue ≡ runs
-    → queueRule s to priority channel length .number ≡ queueNumber s to priority channel length
+queue-number : (s : Station) (q : Request) → moveOf (stateOf s) Queue ≡ runs
+    → queueRule s q .number ≡ queueNumber s q
 unfolding queueRule accepted
-queue-number s to priority channel length r =
-    ap (λ (a : Answer). a .number) (moved-runs s Queue _ refl r) ∙ unless-number s (queueNumber s to priority channel length) (accepted s to priority channel length) refl
+queue-number s q r =
+    ap (λ (a : Answer). a .number) (moved-runs s Queue _ refl r) ∙ unless-number s (queueNumber s q) (accepted s q) refl
 
 -- no destination of the ring is struck out
-all-live : (n own : ℕ) (alive : Bool) (len to priority channel length : ℕ) → (to < n → alive ≡ true)
-    → queueRefusal n own alive len to priority channel length ≡ queueRefusal n own true len to priority channel length
+all-live : (n own : ℕ) (alive : Bool) (len : ℕ) (r : Request) → (r .to < n → alive ≡ true)
+    → queueRefusal n own alive len r ≡ queueRefusal n own true len r
 unfolding queueRefusal
-all-live n own alive len to priority channel length w = go (leb n to) refl
+all-live n own alive len r w = go (leb n (r .to)) refl
   where
-    go : (t : Bool) → leb n to ≡ t → queueRefusal n own alive len to priority channel length ≡ queueRefusal n own true len to priority channel length
+    go : (t : Bool) → leb n (r .to) ≡ t → queueRefusal n own alive len r ≡ queueRefusal n own true len r
     go true e = rw e
-    go false e = rw (w (leb-false n to e))
+    go false e = rw (w (leb-false n (r .to) e))
 
-member-number : {limit : ℕ} (n p : ℕ) (s : Station) → n ≤ 64 → Member n limit p s → (to priority channel length : ℕ)
-    → queueNumber s to priority channel length ≡ queueRefusal n p true (s .sends .len) to priority channel length
-member-number n p s most m to priority channel length =
-    ap (λ (i : ℕ). queueRefusal i (s .own) (liveAt (s .live) to) (s .sends .len) to priority channel length) (m .same-n)
-    ∙ ap (λ (i : ℕ). queueRefusal n i (liveAt (s .live) to) (s .sends .len) to priority channel length) (m .own)
-    ∙ all-live n p (liveAt (s .live) to) (s .sends .len) to priority channel length
-    (λ h. ap (λ (l : Live). liveAt l to) (m .live) ∙ full-live n to most h)
+member-number : {limit : ℕ} (n p : ℕ) (s : Station) → n ≤ 64 → Member n limit p s → (r : Request)
+    → queueNumber s r ≡ queueRefusal n p true (s .sends .len) r
+member-number n p s most m r =
+    ap (λ (i : ℕ). queueRefusal i (s .own) (liveAt (s .live) (r .to)) (s .sends .len) r) (m .same-n)
+    ∙ ap (λ (i : ℕ). queueRefusal n i (liveAt (s .live) (r .to)) (s .sends .len) r) (m .own)
+    ∙ all-live n p (liveAt (s .live) (r .to)) (s .sends .len) r
+    (λ h. ap (λ (l : Live). liveAt l (r .to)) (m .live) ∙ full-live n (r .to) most h)
 
-quiet-number : {limit : ℕ} (b : Bench) → Quiet limit b → (from to priority channel length : ℕ) → OwnNumber (b .n) b from to priority channel length
-quiet-number b q from to priority channel length =
+quiet-number : {limit : ℕ} (b : Bench) → Quiet limit b → (from : ℕ) (r : Request) → OwnNumber (b .n) b from r
+quiet-number b q from r =
     let seats-are : b .n ≡ seats (b .n) = sym (seats-most (b .n) (q .picture .most-members)) in
     record {
-      outside = λ h. sym (ap (λ (x : Queued). x .number) (queue-outside b (b .n) from to priority channel length seats-are h));
+      outside = λ h. sym (ap (λ (x : Queued). x .number) (queue-outside b (b .n) from r seats-are h));
       inside = λ h.
-          sym (ap (λ (x : Queued). x .number) (queue-inside b (b .n) from to priority channel length seats-are (stationAt b from) (queueRule (stationAt b from) to priority channel length) h refl refl))
-          ∙ queue-number (stationAt b from) to priority channel length (queues (q .picture .turns from h))
-          ∙ member-number (b .n) from (stationAt b from) (q .picture .most-members) (q .picture .members from h) to priority channel length;
+          sym (ap (λ (x : Queued). x .number) (queue-inside b (b .n) from r seats-are (stationAt b from) (queueRule (stationAt b from) r) h refl refl))
+          ∙ queue-number (stationAt b from) r (queues (q .picture .turns from h))
+          ∙ member-number (b .n) from (stationAt b from) (q .picture .most-members) (q .picture .members from h) r;
     }
 
-pub queue-numbers : (n limit : ℕ) → 2 ≤ n → n ≤ 64 → 1 ≤ limit → limit ≤ 15 → (es : List Event) (from to priority channel length : ℕ)
-    → OwnNumber n (final (ringWith n limit) es) from to priority channel length
-queue-numbers n limit two most low high es from to priority channel length =
-    subst (λ (k : ℕ). OwnNumber k (final (ringWith n limit) es) from to priority channel length) (reached-n n limit two most low high es)
-    (quiet-number (final (ringWith n limit) es) (reached-quiet n limit two most low high es) from to priority channel length)
+pub queue-numbers : (n limit : ℕ) → 2 ≤ n → n ≤ 64 → 1 ≤ limit → limit ≤ 15 → (es : List Event) (from : ℕ) (r : Request)
+    → OwnNumber n (final (ringWith n limit) es) from r
+queue-numbers n limit two most low high es from r =
+    subst (λ (k : ℕ). OwnNumber k (final (ringWith n limit) es) from r) (reached-n n limit two most low high es)
+    (quiet-number (final (ringWith n limit) es) (reached-quiet n limit two most low high es) from r)

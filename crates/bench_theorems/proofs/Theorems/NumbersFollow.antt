@@ -62,9 +62,9 @@ run-number b q j e [] = e ∙ ap (λ (i : ℕ). i % 2 ^ 16) (omega arith)
 run-number b q j e (stepped ∷ es) =
     run-number (afterEvent b stepped) (quiet-event b q stepped) (j + 1) (step-number b q ∙ ap next e ∙ mod-add-mod j (2 ^ 16) 1) es
     ∙ ap (λ (i : ℕ). i % 2 ^ 16) (omega arith)
-run-number b q j e (queued from to priority channel length ∷ es) =
-    run-number (afterEvent b (queued from to priority channel length)) (quiet-event b q (queued from to priority channel length)) j
-    (ap (λ (w : Wire). numberIn (w .sent)) (queue-wire b from to priority channel length) ∙ e) es
+run-number b q j e (queued from r ∷ es) =
+    run-number (afterEvent b (queued from r)) (quiet-event b q (queued from r)) j
+    (ap (λ (w : Wire). numberIn (w .sent)) (queue-wire b from r) ∙ e) es
 
 pub wire-number : (n limit : ℕ) → 2 ≤ n → n ≤ 64 → 1 ≤ limit → limit ≤ 15 → (es : List Event) → wireNumber (final (ringWith n limit) es) ≡ stepsIn es % 2 ^ 16
 wire-number n limit two most low high es =

@@ -25,7 +25,7 @@ use Rattle.bench_theorems.proofs.Laws.Ringing.{quiet-start}
 pub quiet-event : {limit : ℕ} (b : Bench) → Quiet limit b → (e : Event) → Quiet limit (afterEvent b e)
 unfolding afterEvent
 quiet-event b q stepped = quiet-step b q
-quiet-event b q (queued from to priority channel length) = quiet-queue b q from to priority channel length
+quiet-event b q (queued from r) = quiet-queue b q from r
 
 pub quiet-run : {limit : ℕ} (b : Bench) → Quiet limit b → (es : List Event) → Quiet limit (final b es)
 unfolding final
@@ -45,10 +45,10 @@ step-n b (Sent frame to) = refl
 event-n : (b : Bench) (e : Event) → afterEvent b e .n ≡ b .n
 unfolding afterEvent step queue pick
 event-n b stepped = step-n b (b .wire .sent)
-event-n b (queued from to priority channel length) = go (leb (seats (b .n)) from)
+event-n b (queued from r) = go (leb (seats (b .n)) from)
   where
     go : (t : Bool)
-        → pick {A = Queued} t (record { bench = b; number = 15 }) (queueAt b from (queueRule (stationAt b from) to priority channel length)) .bench .n ≡ b .n
+        → pick {A = Queued} t (record { bench = b; number = 15 }) (queueAt b from (queueRule (stationAt b from) r)) .bench .n ≡ b .n
     go true = refl
     go false = refl
 

@@ -52,17 +52,17 @@ is-word-requires-3 c κs = search needs
 numbers-behind-requires : tie.Need-numbers-behind-requires
 numbers-behind-requires c κs = search needs
 
-element-copy-out-queue : tie.Need-element-copy-out-queue
-element-copy-out-queue c = search needs
+element-copy-out-t26 : tie.Need-element-copy-out-t26
+element-copy-out-t26 c = search needs
 
-element-copy-out-queue-2 : tie.Need-element-copy-out-queue-2
-element-copy-out-queue-2 c = search needs
+element-copy-out-t29 : tie.Need-element-copy-out-t29
+element-copy-out-t29 c = search needs
 
-element-copy-out-queue-3 : tie.Need-element-copy-out-queue-3
-element-copy-out-queue-3 c = search needs
+element-copy-out-t32 : tie.Need-element-copy-out-t32
+element-copy-out-t32 c = search needs
 
-element-copy-out-queue-4 : tie.Need-element-copy-out-queue-4
-element-copy-out-queue-4 c = search needs
+element-copy-out-t35 : tie.Need-element-copy-out-t35
+element-copy-out-t35 c = search needs
 
 queue-requires : tie.Need-queue-requires
 queue-requires c κs = search needs
@@ -96,10 +96,10 @@ obey-spec =
     slice-aggregate-is-word-3
     is-word-requires-3
     numbers-behind-requires
-    element-copy-out-queue
-    element-copy-out-queue-2
-    element-copy-out-queue-3
-    element-copy-out-queue-4
+    element-copy-out-t26
+    element-copy-out-t29
+    element-copy-out-t32
+    element-copy-out-t35
     queue-requires
     tell-requires-3
     returns-3

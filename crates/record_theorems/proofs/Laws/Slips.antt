@@ -8,6 +8,7 @@ use borrow.Author.Tests.{eq-eqb, eqb-true, ne-eqb, le-ltb}
 use lib.Dec.{eqb}
 use Rattle.parts.specs.Choose.{pick, allOf}
 use Rattle.parts.specs.Moves.{stateNumber}
+use Rattle.plain_rules.specs.Round.{bidOf, passing}
 use Rattle.parts.specs.declared.moves.State.{State}
 use Rattle.parts.specs.declared.moves.State.the-variants.{Offline, Idle, Waiting, Alone, Excluded}
 use Rattle.parts.specs.declared.frame.Whom.{Whom}
@@ -69,10 +70,10 @@ whom-fits (Member p) t = omega arith
 pub dispatch-back : (d : Dispatch) → TypedDispatch d → dispatchFrom (slipOf d) ≡ d
 unfolding dispatchFrom slipOf slipTo pick
 dispatch-back Nothing t = refl
-dispatch-back (Sent (Token number priority master failing named) to) t =
-    ap (λ (w : Whom). Sent (Token number priority master w named) to) (whom-back failing (t .0 .failing-u8))
-dispatch-back (Sent (Transmit number priority master named) to) t = refl
-dispatch-back (Sent (Information number priority channel size place) to) t = refl
+dispatch-back (Sent (Token f) to) t =
+    ap (λ (w : Whom). Sent (Token (passing (f .number) f w (bidOf f))) to) (whom-back (f .failing) (t .0 .failing-u8))
+dispatch-back (Sent (Transmit f) to) t = refl
+dispatch-back (Sent (Information i) to) t = refl
 
 abbrev pub slipFields : Slip → List Field
 slipFields p =
@@ -92,11 +93,11 @@ pub slip-fits : (d : Dispatch) → TypedDispatch d → Fit (slipFields (slipOf d
 unfolding slipOf slipTo
 slip-fits Nothing t =
     (omega arith, (omega arith, (omega arith, (omega arith, (omega arith, (omega arith, (omega arith, (omega arith, (omega arith, (omega arith, tt))))))))))
-slip-fits (Sent (Token number priority master failing named) to) t =
-    (omega arith, (t .1, (t .0 .number-u16, (t .0 .priority-u8, (t .0 .master-u8, (whom-fits failing (t .0 .failing-u8), (t .0 .named-u8, (omega arith, (omega arith, (omega arith, tt))))))))))
-slip-fits (Sent (Transmit number priority master named) to) t =
+slip-fits (Sent (Token f) to) t =
+    (omega arith, (t .1, (t .0 .number-u16, (t .0 .priority-u8, (t .0 .master-u8, (whom-fits (f .failing) (t .0 .failing-u8), (t .0 .named-u8, (omega arith, (omega arith, (omega arith, tt))))))))))
+slip-fits (Sent (Transmit f) to) t =
     (omega arith, (t .1, (t .0 .number-u16, (t .0 .priority-u8, (t .0 .master-u8, (omega arith, (t .0 .named-u8, (omega arith, (omega arith, (omega arith, tt))))))))))
-slip-fits (Sent (Information number priority channel size place) to) t =
+slip-fits (Sent (Information i) to) t =
     (omega arith, (t .1, (t .0 .number-u16, (t .0 .priority-u8, (omega arith, (omega arith, (omega arith, (t .0 .channel-u8, (t .0 .place-u8, (t .0 .length-u16, tt))))))))))
 
 pub same-slip : (p q : Slip) → sameSlip p q ≡ true → p ≡ q

@@ -8,6 +8,9 @@ use Rattle.parts.specs.declared.list.Message.{Message}
 use Rattle.parts.specs.declared.list.Messages.{Messages}
 use Rattle.parts.specs.declared.frame.Whom.{Whom}
 use Rattle.parts.specs.declared.frame.Whom.the-variants.{Nobody, Member}
+use Rattle.parts.specs.declared.frame.TokenFrame.{TokenFrame}
+use Rattle.parts.specs.declared.frame.TransmitFrame.{TransmitFrame}
+use Rattle.parts.specs.declared.frame.InformationFrame.{InformationFrame}
 use Rattle.parts.specs.declared.frame.Frame.{Frame}
 use Rattle.parts.specs.declared.frame.Frame.the-variants.{Token, Transmit, Information}
 use Rattle.parts.specs.declared.frame.Dispatch.{Dispatch}
@@ -35,24 +38,30 @@ abbrev pub TypedWhom : Whom → Type 0
 TypedWhom Nobody = Unit {0}
 TypedWhom (Member p) = p < 256
 
-pub record TypedToken (number priority master : ℕ) (failing : Whom) (named : ℕ) : Type 0 where
-  pub number-u16 : number < 65536
-  pub priority-u8 : priority < 256
-  pub master-u8 : master < 256
-  pub failing-u8 : TypedWhom failing
-  pub named-u8 : named < 256
+pub record TypedToken (t : TokenFrame) : Type 0 where
+  pub number-u16 : t .number < 65536
+  pub priority-u8 : t .priority < 256
+  pub master-u8 : t .master < 256
+  pub failing-u8 : TypedWhom (t .failing)
+  pub named-u8 : t .named < 256
 
-pub record TypedInformation (number priority channel size place : ℕ) : Type 0 where
-  pub number-u16 : number < 65536
-  pub priority-u8 : priority < 256
-  pub channel-u8 : channel < 256
-  pub length-u16 : size < 65536
-  pub place-u8 : place < 256
+pub record TypedTransmit (t : TransmitFrame) : Type 0 where
+  pub number-u16 : t .number < 65536
+  pub priority-u8 : t .priority < 256
+  pub master-u8 : t .master < 256
+  pub named-u8 : t .named < 256
+
+pub record TypedInformation (i : InformationFrame) : Type 0 where
+  pub number-u16 : i .number < 65536
+  pub priority-u8 : i .priority < 256
+  pub channel-u8 : i .channel < 256
+  pub length-u16 : i .length < 65536
+  pub place-u8 : i .place < 256
 
 abbrev pub TypedFrame : Frame → Type 0
-TypedFrame (Token number priority master failing named) = TypedToken number priority master failing named
-TypedFrame (Transmit number priority master named) = TypedToken number priority master Nobody named
-TypedFrame (Information number priority channel size place) = TypedInformation number priority channel size place
+TypedFrame (Token t) = TypedToken t
+TypedFrame (Transmit t) = TypedTransmit t
+TypedFrame (Information i) = TypedInformation i
 
 abbrev pub TypedDispatch : Dispatch → Type 0
 TypedDispatch Nothing = Unit {0}
@@ -75,5 +84,5 @@ pub record Typed (s : Station) : Type 0 where
   pub sends : TypedList (s .sends)
   pub receives : TypedList (s .receives)
   pub turn : TypedTurn (s .turn)
-  pub lost-u32 : s .lost < 4294967296
-  pub givenup-u32 : s .givenup < 4294967296
+  pub lost-u32 : s .counts .lost < 4294967296
+  pub givenup-u32 : s .counts .givenup < 4294967296

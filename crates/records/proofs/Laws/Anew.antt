@@ -103,7 +103,7 @@ parts-made t c v s o w a b d e f g et ec ev es ef eg = rw (et, ec, ev, es, zeros
 
 station-made : (n own : ℕ) → n ≤ 64 → stationOctets (made n 0 own) ≡ octets 1 own ++ (zeros (liveAt - stateAt) ++ (ones n ++ zeros (recordLength - liveAt - n)))
 station-made n own h =
-    parts-made (turnOctets own (made n 0 own .turn)) (countsOctets 0 0) (liveOctets (full n)) (listsOctets (made n 0 own)) (octets 1 own) (ones n) (lostAt - stateAt) (liveAt - lostAt) (64 - n) (recordLength - sendsAt) (liveAt - stateAt) (recordLength - liveAt - n)
+    parts-made (turnOctets own (made n 0 own .turn)) (countsOctets (made n 0 own .counts)) (liveOctets (full n)) (listsOctets (made n 0 own)) (octets 1 own) (ones n) (lostAt - stateAt) (liveAt - lostAt) (64 - n) (recordLength - sendsAt) (liveAt - stateAt) (recordLength - liveAt - n)
     (turn-made n own) refl (live-made n h) (lists-made n own) refl (omega arith)
 
 -- ---- the writes one after the other

@@ -25,7 +25,7 @@ length-list l h = length-append (octets 1 (l .len)) (itemsOctets (l .items)) ∙
 
 pub length-head : (s : Station) → length (s .live .on) ≡ 64 → length (headOctets s) ≡ sendsAt - ownAt
 length-head s h =
-    let counts : List ℕ = countsOctets (s .lost) (s .givenup) in
+    let counts : List ℕ = countsOctets (s .counts) in
     length-append (turnOctets (s .own) (s .turn)) (counts ++ liveOctets (s .live))
     ∙ ap (λ (n : ℕ). (lostAt - ownAt) + n)
     (length-append counts (liveOctets (s .live)) ∙ ap (λ (n : ℕ). (liveAt - lostAt) + n) (length-live (s .live) h))

@@ -10,7 +10,7 @@ use lib.Seq.{length-take-le}
 use borrow.Author.Tests.{lt-ltb, le-ltb, ltb-true, ltb-false, leb-true, eq-eqb, eqb-true}
 use Rattle.parts.specs.Choose.{pick, every}
 use Rattle.parts.proofs.Laws.Choose.{pick-true, pick-false, pick-and}
-use Rattle.script.specs.Lines.{wordsBehind, firstWord, isNumber, value, valueAt, same, shaped, ringWord, queueWord, stepWord, lineOfWords, lineOf, numberOr, joined, joinedAll, noNumbers, numbersOf}
+use Rattle.script.specs.Lines.{wordsBehind, firstWord, isNumber, value, valueAt, same, shaped, ringWord, queueWord, stepWord, requestIn, lineOfWords, lineOf, numberOr, joined, joinedAll, noNumbers, numbersOf}
 use Rattle.script.specs.declared.lines.Numbers.{Numbers}
 use Rattle.script.specs.declared.lines.Line.{Line}
 use Rattle.script.specs.declared.lines.Line.the-variants.{Ring, Queue, Step, Bad}
@@ -179,10 +179,10 @@ one-value v (a ∷ []) h e = sym (number-value a (first-number a [] e))
 one-value v (a ∷ b ∷ ws) h e = absurd (omega arith)
 
 abbrev queueOf : List ℕ → Line
-queueOf l = Queue (getD l 0 0) (getD l 1 0) (getD l 2 0) (getD l 3 0) (getD l 4 0)
+queueOf l = Queue (getD l 0 0) (record { to = getD l 1 0; priority = getD l 2 0; channel = getD l 3 0; length = getD l 4 0 })
 
 five-values : (v : List ℕ) (ws : List (List ℕ)) → length ws ≡ 5 → every isNumber ws ≡ true
-    → Queue (valueAt (v ∷ ws) 1) (valueAt (v ∷ ws) 2) (valueAt (v ∷ ws) 3) (valueAt (v ∷ ws) 4) (valueAt (v ∷ ws) 5) ≡ queueOf (joinedAll noNumbers ws .values)
+    → Queue (valueAt (v ∷ ws) 1) (requestIn (v ∷ ws)) ≡ queueOf (joinedAll noNumbers ws .values)
 unfolding joinedAll joined pick
 five-values v [] h e = absurd (omega arith)
 five-values v (a ∷ []) h e = absurd (omega arith)
@@ -258,7 +258,7 @@ module _ (s : List ℕ) (k : ℕ) (n : Numbers) (ek : k ≡ length (firstWord s)
         (other-count queueWord 5 (take k s) (wordsBehind (drop k s)) (λ e. absurd (omega (arith, how-many g)))) (other-word stepWord 1 (take k s) (wordsBehind (drop k s)) w))
 
     pub says-queue : n .count ≡ 5 → same (take k s) queueWord ≡ true
-        → Queue (getD (n .values) 0 0) (getD (n .values) 1 0) (getD (n .values) 2 0) (getD (n .values) 3 0) (getD (n .values) 4 0) ≡ lineOf s
+        → queueOf (n .values) ≡ lineOf s
     unfolding lineOfWords
     says-queue h w =
         sym (line-read ∙ cond-no _ _ (other-count ringWord 1 (take k s) (wordsBehind (drop k s)) (λ e. absurd (omega (arith, how-many g))))

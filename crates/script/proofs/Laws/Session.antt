@@ -13,6 +13,7 @@ use Rattle.parts.specs.Choose.{pick, allOf}
 use Rattle.parts.proofs.Laws.Choose.{pick-true, pick-false}
 use Rattle.bench.specs.Ring.{startDown, ringWith, ringOf}
 use Rattle.bench.specs.Delivery.{steps}
+use Rattle.parts.specs.declared.request.Request.{Request}
 use Rattle.bench.specs.Calls.{queue}
 use Rattle.bench.specs.Rows.{rowsOn}
 use Rattle.bench.specs.Text.{rowsText, heading, badLine, answerText}
@@ -64,9 +65,9 @@ module _ (begun : Bool) (l : Line) where
   unfolding refuses
   refuses-ring n o e p = ap not p ∙ sym (ap (refuses begun) e)
 
-  pub refuses-queue : (from to priority channel size : ℕ) → l ≡ Queue from to priority channel size → not begun ≡ refuses begun l
+  pub refuses-queue : (from : ℕ) (q : Request) → l ≡ Queue from q → not begun ≡ refuses begun l
   unfolding refuses
-  refuses-queue from to priority channel size e = sym (ap (refuses begun) e)
+  refuses-queue from q e = sym (ap (refuses begun) e)
 
   pub refuses-step : (count : ℕ) → l ≡ Step count → not begun ≡ refuses begun l
   unfolding refuses
@@ -162,7 +163,7 @@ module _ (s : Session) (room : ℕ) where
   refused-outcome Bad r = record { after = refl; printed = refl; rest = refl }
   refused-outcome (Ring n) r =
       record { after = pick-false _ _ (not-true _ r); printed = pick-false _ _ (not-true _ r); rest = refl }
-  refused-outcome (Queue from to priority channel size) r =
+  refused-outcome (Queue from q) r =
       record { after = pick-false _ _ (not-true _ r); printed = pick-false _ _ (not-true _ r); rest = refl }
   refused-outcome (Step count) r =
       record { after = pick-false _ _ (not-true _ r); printed = pick-false _ _ (not-true _ r); rest = pick-false _ _ (not-true _ r) }
@@ -172,11 +173,11 @@ module _ (s : Session) (room : ℕ) where
   ring-outcome n r =
       record { after = pick-true _ _ (not-false _ r); printed = pick-true _ _ (not-false _ r); rest = refl }
 
-  queue-outcome : (from to priority channel size : ℕ) → refuses (s .begun) (Queue from to priority channel size) ≡ false
-      → Outcome s (Queue from to priority channel size) room (onBench (queue (s .bench) from to priority channel size .bench))
-      (answerText (queue (s .bench) from to priority channel size .number)) 0
+  queue-outcome : (from : ℕ) (q : Request) → refuses (s .begun) (Queue from q) ≡ false
+      → Outcome s (Queue from q) room (onBench (queue (s .bench) from q .bench))
+      (answerText (queue (s .bench) from q .number)) 0
   unfolding refuses does prints cut leftOf
-  queue-outcome from to priority channel size r =
+  queue-outcome from q r =
       record { after = pick-true _ _ (not-false _ r); printed = pick-true _ _ (not-false _ r); rest = refl }
 
   step-outcome : (count : ℕ) → refuses (s .begun) (Step count) ≡ false
@@ -220,14 +221,14 @@ module _ (s : Session) (l : Line) (out : List ℕ) (at : ℕ) where
           (subst⁻¹ (λ (x : Line). Outcome s x (length out - at) (onBench (ringOf n)) (ringText n) 0) e
           (ring-outcome s (length out - at) n (ap (refuses (s .begun)) (sym e) ∙ taken)))
 
-      pub obey-queue : (from to priority channel size : ℕ) → l ≡ Queue from to priority channel size
-          → r ≡ actedBy (onBench (queue (s .bench) from to priority channel size .bench)) (answerText (queue (s .bench) from to priority channel size .number)) at 0
-          → out₁ ≡ laid out at (answerText (queue (s .bench) from to priority channel size .number)) → Obeyed s l out at r out₁
-      obey-queue from to priority channel size e =
-          let q : Queued = queue (s .bench) from to priority channel size in
-          obey-by r out₁ (onBench (q .bench)) (answerText (q .number)) 0 h
-          (subst⁻¹ (λ (x : Line). Outcome s x (length out - at) (onBench (q .bench)) (answerText (q .number)) 0) e
-          (queue-outcome s (length out - at) from to priority channel size (ap (refuses (s .begun)) (sym e) ∙ taken)))
+      pub obey-queue : (from : ℕ) (q : Request) → l ≡ Queue from q
+          → r ≡ actedBy (onBench (queue (s .bench) from q .bench)) (answerText (queue (s .bench) from q .number)) at 0
+          → out₁ ≡ laid out at (answerText (queue (s .bench) from q .number)) → Obeyed s l out at r out₁
+      obey-queue from q e =
+          let o : Queued = queue (s .bench) from q in
+          obey-by r out₁ (onBench (o .bench)) (answerText (o .number)) 0 h
+          (subst⁻¹ (λ (x : Line). Outcome s x (length out - at) (onBench (o .bench)) (answerText (o .number)) 0) e
+          (queue-outcome s (length out - at) from q (ap (refuses (s .begun)) (sym e) ∙ taken)))
 
       pub obey-step : (count : ℕ) → l ≡ Step count
           → r ≡ actedBy (onBench (steps (fitting count (length out - at)) (s .bench))) (stepsText (fitting count (length out - at)) (s .bench)) at (count - fitting count (length out - at))

@@ -87,7 +87,7 @@ pub in-parts : (s : Session) (l : Line) (room : ℕ) → InParts s l room
 unfolding cut leftOf
 in-parts s Bad room = at-once s room Bad refl refl
 in-parts s (Ring n) room = at-once s room (Ring n) refl refl
-in-parts s (Queue from to priority channel size) room = at-once s room (Queue from to priority channel size) refl refl
+in-parts s (Queue from q) room = at-once s room (Queue from q) refl refl
 in-parts s (Step count) room = go (s .begun) refl
   where
     go : (b : Bool) → s .begun ≡ b → InParts s (Step count) room

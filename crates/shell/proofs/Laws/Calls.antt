@@ -86,9 +86,9 @@ in-place-short store place n = go (fitsPlace (length store) place n) refl
 carried-short : (store : List ℕ) (d : Dispatch) → length (informationOf store d) ≤ placeLength
 unfolding informationOf carriedIn
 carried-short store Nothing = zero-le
-carried-short store (Sent (Token number priority master failing named) to) = zero-le
-carried-short store (Sent (Transmit number priority master named) to) = zero-le
-carried-short store (Sent (Information number priority channel length place) to) = in-place-short store place length
+carried-short store (Sent (Token t) to) = zero-le
+carried-short store (Sent (Transmit t) to) = zero-le
+carried-short store (Sent (Information i) to) = in-place-short store (i .place) (i .length)
 
 pub information-short : (store carried : List ℕ) (d : Dispatch) → carried ≡ informationOf store d → length carried ≤ placeLength
 information-short store carried d e = rw e (carried-short store d)

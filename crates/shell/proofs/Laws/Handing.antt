@@ -5,9 +5,9 @@ use mathlib.Core.List.{List}
 use Prim.Native.Nat.{ℕ}
 use borrow.Author.Tests.{eq-eqb, ne-eqb}
 use lib.ListN.{length, take}
-use Rattle.codec.specs.Ring.{position}
 use Rattle.station.specs.Queue.{queueRule}
 use Rattle.station.specs.Take.{takeRule}
+use Rattle.parts.specs.declared.request.Request.{Request}
 use Rattle.station.specs.declared.station.Station.{Station}
 use Rattle.station.specs.declared.station.Answer.{Answer}
 use Rattle.records.specs.Layout.{storeLength}
@@ -27,24 +27,24 @@ store-good {n} e = rw (eq-eqb n storeLength e)
 
 -- ---- queue
 
--- the answer as the code has it, with what it holds and the position that it looked up
+-- the answer as the code has it, with what it holds and the request that it made on its ring
 pub queue-answer : {rec addresses : List ℕ} {n : ℕ} {st : Station} → Held rec addresses n st
-    → (to priority channel : ℕ) (payload ms : List ℕ) (p : ℕ) (b : Answer) → ms ≡ take n addresses → p ≡ position ms to
-    → b ≡ queueRule st p priority channel (length payload) → b ≡ queueAnswer rec to priority channel payload
-queue-answer {rec = rec} {st = st} h to priority channel payload ms p b em ep eb =
+    → (request : List ℕ → Request) (ms : List ℕ) (q : Request) (b : Answer) → ms ≡ take n addresses → q ≡ request ms
+    → b ≡ queueRule st q → b ≡ queueAnswer rec (request (ringIn rec))
+queue-answer {rec = rec} {st = st} h request ms q b em eq eb =
     eb
-    ∙ ap (λ (q : ℕ). queueRule st q priority channel (length payload)) (ep ∙ ap (λ (r : List ℕ). position r to) (em ∙ h .members))
-    ∙ ap (λ (x : Station). queueRule x (position (ringIn rec) to) priority channel (length payload)) (h .station)
+    ∙ ap (queueRule st) (eq ∙ ap request (em ∙ h .members))
+    ∙ ap (λ (x : Station). queueRule x (request (ringIn rec))) (h .station)
 
-module _ {rec store : List ℕ} {to priority channel : ℕ} {payload : List ℕ} where
-  pub not-queued : {r : ℕ} → Refusal (badStore (length store)) rec (queueAnswer rec to priority channel payload) r
-      → Queueing rec store to priority channel payload r rec store
+module _ {rec store : List ℕ} {q : Request} {payload : List ℕ} where
+  pub not-queued : {r : ℕ} → Refusal (badStore (length store)) rec (queueAnswer rec q) r
+      → Queueing rec store q payload r rec store
   not-queued {r} f =
       record { answer = f .number-is; record-is = kept-old r _ _ (f .some); store-is = kept-old r _ _ (f .some) }
 
-  pub all-queued : (b : Answer) (rec′ store′ : List ℕ) → Done (badStore (length store)) rec (queueAnswer rec to priority channel payload)
-      → b ≡ queueAnswer rec to priority channel payload → rec′ ≡ recordWith rec (b .station) → store′ ≡ queued store (b .payload) payload
-      → Queueing rec store to priority channel payload 0 rec′ store′
+  pub all-queued : (b : Answer) (rec′ store′ : List ℕ) → Done (badStore (length store)) rec (queueAnswer rec q)
+      → b ≡ queueAnswer rec q → rec′ ≡ recordWith rec (b .station) → store′ ≡ queued store (b .payload) payload
+      → Queueing rec store q payload 0 rec′ store′
   all-queued b rec′ store′ d eb er es =
       record {
         answer = d .number-is;

@@ -28,7 +28,7 @@ use Rattle.station_theorems.proofs.Laws.Small.{Small, SmallList, SmallDispatch,
 use Rattle.station_theorems.proofs.Theorems.GoodList.{GoodList, GoodMessage}
 use Rattle.station_theorems.proofs.Theorems.Awaited.{Awaited, Proper, Carries}
 use Rattle.station_theorems.proofs.Theorems.Whole.{Whole, whole-is}
-use Rattle.record_theorems.proofs.Laws.Typed.{TypedMessage, TypedList, TypedWhom, TypedToken, TypedInformation, TypedFrame, TypedDispatch, TypedHandled, TypedTurn, Typed}
+use Rattle.record_theorems.proofs.Laws.Typed.{TypedMessage, TypedList, TypedWhom, TypedToken, TypedTransmit, TypedInformation, TypedFrame, TypedDispatch, TypedHandled, TypedTurn, Typed}
 
 -- ---- a list
 
@@ -76,23 +76,22 @@ whom-typed n few (Member p) h = omega (arith, few, h p refl)
 
 module _ (n own : ℕ) (few : n ≤ 64) (l : Messages) (g : GoodList n own l) where
   frame-typed : (f : Frame) (to : ℕ) → Proper n own l f to → SmallFrame f → TypedFrame f
-  frame-typed (Token number priority master failing named) to p k =
+  frame-typed (Token t) to p k =
       record {
         number-u16 = k .number;
         priority-u8 = k .priority;
         master-u8 = omega (arith, few, p .fits-to-write .master-member);
-        failing-u8 = whom-typed n few failing (p .fits-to-write .failing-member);
+        failing-u8 = whom-typed n few (t .failing) (p .fits-to-write .failing-member);
         named-u8 = omega (arith, few, p .fits-to-write .named-member);
       }
-  frame-typed (Transmit number priority master named) to p k =
+  frame-typed (Transmit t) to p k =
       record {
         number-u16 = k .number;
         priority-u8 = k .priority;
         master-u8 = omega (arith, few, p .fits-to-write .master-member);
-        failing-u8 = tt;
         named-u8 = omega (arith, few, p .fits-to-write .named-member);
       }
-  frame-typed (Information number priority channel size place) to p k =
+  frame-typed (Information i) to p k =
       let c = p .carries in
       record {
         number-u16 = k .number;

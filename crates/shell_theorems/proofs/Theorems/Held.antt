@@ -14,6 +14,7 @@ use Rattle.codec.specs.Ring.{Ring, RingRead, readRing, position, ringOf, count,
 use Rattle.packet_codec.specs.declared.reading.Read.{Read}
 use Rattle.packet_codec.specs.declared.reading.Read.the-variants.{Refused, Good}
 use Rattle.parts.specs.declared.moves.Event.the-variants.{Heard}
+use Rattle.parts.specs.declared.request.Request.{Request}
 use Rattle.parts.specs.Frames.{fit}
 use Rattle.station.specs.Stations.{answered, moved, unless}
 use Rattle.station.specs.Start.{startRule}
@@ -47,8 +48,8 @@ pub data Held : List ℕ → Type 0 where
   by-frame : (rec store : List ℕ) (from to : ℕ) (packet out told : List ℕ) (r : ℕ) (rec′ store′ out′ told′ : List ℕ) → Held rec → Octets packet
       → Hearing rec store from to packet out told r rec′ store′ out′ told′ → Held rec′
   by-timer : (rec store out told : List ℕ) (r : ℕ) (rec′ out′ told′ : List ℕ) → Held rec → Timing rec store out told r rec′ out′ told′ → Held rec′
-  by-queue : (rec store : List ℕ) (to priority channel : ℕ) (payload : List ℕ) (r : ℕ) (rec′ store′ : List ℕ) → Held rec
-      → Queueing rec store to priority channel payload r rec′ store′ → Held rec′
+  by-queue : (rec store : List ℕ) (q : Request) (payload : List ℕ) (r : ℕ) (rec′ store′ : List ℕ) → Held rec
+      → Queueing rec store q payload r rec′ store′ → Held rec′
   by-take : (rec store : List ℕ) (channel : ℕ) (room told : List ℕ) (r : ℕ) (rec′ room′ told′ : List ℕ) → Held rec
       → Taking rec store channel room told r rec′ room′ told′ → Held rec′
 
@@ -132,11 +133,11 @@ held-sure (by-frame rec store from to packet out told r rec′ store′ out′ t
 held-sure (by-timer rec store out told r rec′ out′ told′ p m) =
     let h = held-sure p in
     after-call rec rec′ r _ h (m .record-is) (calls-keep-whole _ (h .whole) .timer) (timer-small _ _ _ (h .small))
-held-sure (by-queue rec store to priority channel payload r rec′ store′ p m) =
+held-sure (by-queue rec store q payload r rec′ store′ p m) =
     let h = held-sure p in
     after-call rec rec′ r _ h (m .record-is)
-    (calls-keep-whole _ (h .whole) .queue (position (ringIn rec) to) priority channel (length payload))
-    (queue-small _ _ _ (position (ringIn rec) to) priority channel (length payload) (h .small))
+    (calls-keep-whole _ (h .whole) .queue q)
+    (queue-small _ _ _ q (h .small))
 held-sure (by-take rec store channel room told r rec′ room′ told′ p m) =
     let h = held-sure p in
     after-call rec rec′ r _ h (m .record-is)

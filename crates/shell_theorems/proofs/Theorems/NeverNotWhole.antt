@@ -8,7 +8,6 @@ use lib.Dec.{ltb, leb, eqb}
 use lib.ListN.{length}
 use Rattle.codec.specs.Order.{firstOf}
 use Rattle.packet_codec.specs.Packet.{readPacket, packetOf, identifier, readTests, isBad}
-use Rattle.codec.specs.Ring.{position}
 use Rattle.packet_codec.specs.declared.fields.Looked.the-variants.{Sound}
 use Rattle.packet_codec.specs.declared.reading.Read.{Read}
 use Rattle.packet_codec.specs.declared.reading.Read.the-variants.{Refused, Good}
@@ -18,10 +17,12 @@ use Rattle.parts.specs.declared.moves.State.{State}
 use Rattle.parts.specs.declared.moves.State.the-variants.{Offline, Idle, Waiting, Alone, Excluded}
 use Rattle.parts.specs.declared.moves.Event.{Event}
 use Rattle.parts.specs.declared.moves.Event.the-variants.{Start, Heard, Timer, Queue, Take}
+use Rattle.parts.specs.declared.request.Request.{Request}
 use Rattle.parts.specs.declared.frame.Frame.{Frame}
 use Rattle.parts.specs.declared.frame.Dispatch.{Dispatch}
 use Rattle.parts.specs.declared.frame.Dispatch.the-variants.{Nothing, Sent}
 use Rattle.parts.specs.declared.list.Best.{Best}
+use Rattle.station.specs.Strike.{Struck}
 use Rattle.station.specs.Stations.{stateOf, awaitedOf, moved, unless, answered, alone}
 use Rattle.station.specs.Start.{started, startRule}
 use Rattle.station.specs.Heard.{heard, respond, handle, nothingMore, frameRule}
@@ -31,7 +32,6 @@ use Rattle.station.specs.Queue.{accepted, queueRule}
 use Rattle.plain_rules.specs.Refusals.{queueRefusal}
 use Rattle.station.specs.Take.{taking, takeRule}
 use Rattle.plain_rules.specs.Refusals.{takeRefusal}
-use Rattle.station.specs.declared.rules.strike.Struck.{Struck}
 use Rattle.station.specs.declared.station.Station.{Station}
 use Rattle.station.specs.declared.station.Answer.{Answer}
 use Rattle.station_theorems.proofs.Laws.Small.{pick-keeps}
@@ -123,30 +123,30 @@ unfolding timerRule
 timer-other s = moved-other s _ _ (on-timer-other s (awaitedOf s))
 
 -- 14 to 19
-refusal-other : (n own : ℕ) (live : Bool) (len to priority channel size : ℕ) → Other (queueRefusal n own live len to priority channel size)
+refusal-other : (n own : ℕ) (live : Bool) (len : ℕ) (q : Request) → Other (queueRefusal n own live len q)
 unfolding queueRefusal
-refusal-other n own live len to priority channel size =
-    let a : Other 14 = λ q. omega (arith, q) in
-    let b : Other 15 = λ q. omega (arith, q) in
-    let c : Other 16 = λ q. omega (arith, q) in
-    let d : Other 17 = λ q. omega (arith, q) in
-    let e : Other 18 = λ q. omega (arith, q) in
-    let f : Other 19 = λ q. omega (arith, q) in
+refusal-other n own live len q =
+    let a : Other 14 = λ z. omega (arith, z) in
+    let b : Other 15 = λ z. omega (arith, z) in
+    let c : Other 16 = λ z. omega (arith, z) in
+    let d : Other 17 = λ z. omega (arith, z) in
+    let e : Other 18 = λ z. omega (arith, z) in
+    let f : Other 19 = λ z. omega (arith, z) in
     let ts : List (Bool × ℕ) =
-    (eqb priority 0, 14)
-    ∷ (ltb 255 priority, 14)
-    ∷ (leb n to, 15)
-    ∷ (eqb to own, 15)
+    (eqb (q .priority) 0, 14)
+    ∷ (ltb 255 (q .priority), 14)
+    ∷ (leb n (q .to), 15)
+    ∷ (eqb (q .to) own, 15)
     ∷ (not live, 16)
-    ∷ (ltb 7 channel, 17)
-    ∷ (ltb 1492 size, 18)
+    ∷ (ltb 7 (q .channel), 17)
+    ∷ (ltb 1492 (q .length), 18)
     ∷ (leb 16 len, 19)
     ∷ [] in
     first-other 0 ts not-0 (a, (a, (b, (b, (c, (d, (e, (f, tt))))))))
 
-queue-other : (s : Station) (to priority channel size : ℕ) → Gives (queueRule s to priority channel size)
+queue-other : (s : Station) (q : Request) → Gives (queueRule s q)
 unfolding queueRule accepted
-queue-other s to priority channel size = moved-other s _ _ (unless-other s _ _ (refusal-other _ _ _ _ to priority channel size) not-0)
+queue-other s q = moved-other s _ _ (unless-other s _ _ (refusal-other _ _ _ _ q) not-0)
 
 -- 17, 20, 21
 take-refusal-other : (channel : ℕ) (b : Best) (room : ℕ) → Other (takeRefusal channel b room)
@@ -196,7 +196,7 @@ pub record Never35 (rec : List ℕ) : Type 0 where
   pub start : (out : ℕ) → callNumber (badOut out) rec (startAnswer rec) ≡ 35 → ⊥
   pub frame : (store out from to : ℕ) (packet : List ℕ) → callNumber (badBuffers store out) rec (frameAnswer rec from to packet) ≡ 35 → ⊥
   pub timer : (store out : ℕ) → callNumber (badBuffers store out) rec (timerAnswer rec) ≡ 35 → ⊥
-  pub queue : (store to priority channel : ℕ) (payload : List ℕ) → callNumber (badStore store) rec (queueAnswer rec to priority channel payload) ≡ 35 → ⊥
+  pub queue : (store : ℕ) (q : Request) → callNumber (badStore store) rec (queueAnswer rec q) ≡ 35 → ⊥
   pub take : (store channel : ℕ) (room : List ℕ) → callNumber (badStore store) rec (takeAnswer rec channel room) ≡ 35 → ⊥
 
 number-other : (bad : Bool) (rec : List ℕ) (a : Answer) → readRecord rec .ok ≡ true → Gives a → Other (callNumber bad rec a)
@@ -215,7 +215,6 @@ never-35 rec p =
       start = λ out. number-other (badOut out) rec (startAnswer rec) ok (start-other s);
       frame = λ store out from to packet. number-other (badBuffers store out) rec (frameAnswer rec from to packet) ok (packet-other s (ringIn rec) from to packet);
       timer = λ store out. number-other (badBuffers store out) rec (timerAnswer rec) ok (timer-other s);
-      queue = λ store to priority channel payload.
-          number-other (badStore store) rec (queueAnswer rec to priority channel payload) ok (queue-other s (position (ringIn rec) to) priority channel (length payload));
+      queue = λ store q. number-other (badStore store) rec (queueAnswer rec q) ok (queue-other s q);
       take = λ store channel room. number-other (badStore store) rec (takeAnswer rec channel room) ok (take-other s channel (length room));
     }

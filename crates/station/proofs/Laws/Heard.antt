@@ -9,7 +9,7 @@ use Rattle.parts.specs.Frames.{numberOf, flight, failingOf}
 use Rattle.station.specs.Stations.{stateOf, awaitedOf, withReceives, withLost, addUpTo, alone}
 use Rattle.station.specs.Round.{sight}
 use Rattle.plain_rules.specs.Round.{reply}
-use Rattle.station.specs.Strike.{strike, giveUpTo, leave, told, stopped}
+use Rattle.station.specs.Strike.{Struck}
 use Rattle.plain_rules.specs.Heard.{newly}
 use Rattle.station.specs.Heard.{landed, acknowledge, strikeOther, strikeHeard, failed, nothingMore, receive, stored, sendOn, handle, silent, respond, heard, checks, frameRule}
 use Rattle.parts.specs.declared.moves.State.the-variants.{Alone, Excluded}
@@ -23,46 +23,13 @@ use Rattle.parts.specs.declared.frame.Dispatch.{Dispatch}
 use Rattle.station.specs.declared.station.Station.{Station}
 use Rattle.station.specs.declared.station.Payload.the-variants.{NoPayload, Of}
 use Rattle.plain_rules.specs.declared.round.Sight.{Sight}
-use Rattle.station.specs.declared.rules.strike.Loss.{Loss}
-use Rattle.station.specs.declared.rules.strike.Struck.{Struck}
 use Rattle.station.specs.declared.rules.heard.Stored.{Stored}
 use Rattle.parts.proofs.Laws.Choose.{pick-true, pick-false}
 use Rattle.station.proofs.Laws.Moved.{moved-runs, unless-passes}
 
--- ---- a message in flight leaves the list
-
-pub landed-from : (s : Station) (f : Flight) → f ≡ flight (awaitedOf s) → f .on ≡ true → leave s (f .place) ≡ landed s
-unfolding landed
-landed-from s f e on = rw e (sym (pick-true _ _ (ap (λ (g : Flight). g .on) (sym e) ∙ on)))
-
-pub landed-without : (s : Station) (f : Flight) → f ≡ flight (awaitedOf s) → f .on ≡ false → s ≡ landed s
-unfolding landed
-landed-without s f e off = sym (pick-false _ _ (ap (λ (g : Flight). g .on) (sym e) ∙ off))
-
--- ---- a failing station
-
-pub strikes-to-none : (s t : Station) (l : Loss) (p : ℕ) (w : Whom) → t ≡ strike s p → l ≡ giveUpTo t p → alone t ≡ true
-    → stopped l w Alone ≡ strikeOther s p w
-unfolding strikeOther
-strikes-to-none s t l p w e g a = rw (g, e) (sym (pick-true _ _ (ap alone (sym e) ∙ a)))
-
-pub strikes-other : (s t : Station) (l : Loss) (p : ℕ) (w : Whom) → t ≡ strike s p → l ≡ giveUpTo t p → alone t ≡ false
-    → told l w ≡ strikeOther s p w
-unfolding strikeOther
-strikes-other s t l p w e g a = rw (g, e) (sym (pick-false _ _ (ap alone (sym e) ∙ a)))
-
-pub strikes-itself : (s t : Station) (g : Messages) (p : ℕ) (w : Whom) → w ≡ newly (s .live) p → t ≡ strike s p → g ≡ none → p ≡ s .own
-    → stopped (record { station = t; gone = g }) w Excluded ≡ strikeHeard s p
-unfolding strikeHeard
-strikes-itself s t g p w n e h i = rw (n, e, h) (sym (pick-true _ _ (eq-eqb _ _ i)))
-
-pub strikes-another : (s : Station) (p : ℕ) (w : Whom) → w ≡ newly (s .live) p → (p ≡ s .own → ⊥) → strikeOther s p w ≡ strikeHeard s p
-unfolding strikeHeard
-strikes-another s p w n i = rw n (sym (pick-false _ _ (ne-eqb _ _ i)))
-
 -- ---- stored, or counted lost
 
-pub receives-none : (s : Station) (m : Message) (k : ℕ) → k ≡ addUpTo (s .lost) 1 → 16 ≤ s .receives .len
+pub receives-none : (s : Station) (m : Message) (k : ℕ) → k ≡ addUpTo (s .counts .lost) 1 → 16 ≤ s .receives .len
     → _≡_ {A = Stored} (record { station = withLost s k; payload = NoPayload }) (receive s m)
 unfolding receive
 receives-none s m k e h = rw e (sym (pick-true _ _ (le-leb _ _ h)))
@@ -78,11 +45,6 @@ pub handles : (k : Struck) (t : Stored) (f : Frame) (n : ℕ) (v : Sight) (d : D
     → sendOn k t n d ≡ handle k t f
 unfolding handle
 handles k t f n v d i j e = rw (e, j, i)
-
-pub responds-not : (k : Struck) (from to : ℕ) (f : Frame) (n : ℕ) → n ≡ numberOf f → nothingMore (k .station) to n ≡ true
-    → silent k ≡ respond k from to f
-unfolding respond
-responds-not k from to f n i h = sym (pick-true _ _ (ap (nothingMore (k .station) to) (sym i) ∙ h))
 
 pub responds : (k : Struck) (from to : ℕ) (f : Frame) (n : ℕ) (t : Stored) → n ≡ numberOf f → nothingMore (k .station) to n ≡ false
     → t ≡ stored (k .station) from f → handle k t f ≡ respond k from to f

@@ -12,7 +12,7 @@ use Rattle.station.specs.declared.station.Station.{Station}
 use Rattle.station.specs.declared.station.Payload.the-variants.{NoPayload}
 use Rattle.parts.specs.Messages.{none}
 use Rattle.parts.specs.Live.{full}
-use Rattle.station.specs.Stations.{made, addUpTo, answered}
+use Rattle.station.specs.Stations.{newTurn, newCounts, made, addUpTo, answered}
 use Rattle.parts.proofs.Laws.Choose.{pick-true, pick-false}
 
 pub add-inside : (c k : ℕ) → k ≤ 4294967295 - c → addUpTo c k ≡ c + k
@@ -32,9 +32,8 @@ pub made-of : (n limit own : ℕ) (l : Live) (a b : Messages) → l ≡ full n �
       live = l;
       sends = a;
       receives = b;
-      turn = record { state = Offline; awaited = Nothing; handled = Never; retries = 0 };
-      lost = 0;
-      givenup = 0;
+      turn = newTurn;
+      counts = newCounts;
     } ≡ made n limit own
 made-of n limit own l a b p q r = λ i.
     record {
@@ -44,9 +43,8 @@ made-of n limit own l a b p q r = λ i.
       live = p i;
       sends = q i;
       receives = r i;
-      turn = record { state = Offline; awaited = Nothing; handled = Never; retries = 0 };
-      lost = 0;
-      givenup = 0;
+      turn = newTurn;
+      counts = newCounts;
     }
 
 -- an answer with an empty list of messages given up, nothing else told

@@ -6,7 +6,7 @@ use borrow.Author.Tests.{lt-ltb, le-ltb}
 use Rattle.parts.specs.Moves.{moveOf}
 use Rattle.station.specs.Stations.{stateOf, awaitedOf, quiet, alone}
 use Rattle.station.specs.Round.{sight}
-use Rattle.station.specs.Strike.{strike, giveUpTo, giveUpFlight, told}
+use Rattle.station.specs.Strike.{Struck}
 use Rattle.plain_rules.specs.Heard.{newly}
 use Rattle.station.specs.Timer.{again, unanswered, leftAlone, goesOn, afterStrike, silence, onTimer, timerRule}
 use Rattle.plain_rules.specs.Resend.{resend}
@@ -18,26 +18,8 @@ use Rattle.parts.specs.declared.frame.Dispatch.{Dispatch}
 use Rattle.parts.specs.declared.frame.Dispatch.the-variants.{Sent}
 use Rattle.station.specs.declared.station.Station.{Station}
 use Rattle.plain_rules.specs.declared.round.Sight.{Sight}
-use Rattle.station.specs.declared.rules.strike.Loss.{Loss}
-use Rattle.station.specs.declared.rules.strike.Struck.{Struck}
 use Rattle.parts.proofs.Laws.Choose.{pick-true, pick-false}
 use Rattle.station.proofs.Laws.Moved.{moved-runs}
-
--- ---- the addressee is struck
-
-pub unanswered-steps : (s : Station) (to : ℕ) (w : Whom) (t : Station) (l m : Loss) → w ≡ newly (s .live) to → t ≡ strike s to → l ≡ giveUpTo t to
-    → m ≡ giveUpFlight l → told m w ≡ unanswered s to
-unfolding unanswered
-unanswered-steps s to w t l m n e g h = rw (h, g, e, n)
-
-pub after-none : (k : Struck) (to : ℕ) (f : Frame) → alone (k .station) ≡ true → leftAlone k ≡ afterStrike k to f
-unfolding afterStrike
-after-none k to f a = sym (pick-true _ _ a)
-
-pub after-others : (k : Struck) (to : ℕ) (f : Frame) (t : Station) (v : Sight) (d : Dispatch) → alone (k .station) ≡ false
-    → t ≡ quiet (k .station) Idle → v ≡ sight t → d ≡ resend v to f → goesOn k d ≡ afterStrike k to f
-unfolding afterStrike
-after-others k to f t v d a e i j = rw (j, i, e) (sym (pick-false _ _ a))
 
 -- ---- below the limit, and at the last timer
 

@@ -1,9 +1,11 @@
-// A heard frame, in five steps.
+// A heard frame, in five steps: what it asks for is decided, and then done.
 ghost use mathlib.Core.Path.{_≡_};
-ghost use Rattle.parts.specs.Moves.{isIdle, isWaiting};
-ghost use Rattle.station.specs.Heard.{checks, acknowledged, landed, acknowledge, strikeOther, strikeHeard, failed, isLast, stops, heardMessage, receive, stored, handle, sendOn, silent, respond, heard, frameRule};
-use crate::rules::strike::Loss;
-use crate::rules::strike::Struck;
+ghost use Rattle.station.specs.Heard.{checks, acknowledged, isLast, stops, heardMessage, receive, frameRule};
+ghost use Rattle.station.specs.Decide.{rested, landsBy, blowAt, blowOf, closed, courseOf, toStore, storesToo, quietly, replying, hearing, decided, turnedBy};
+use crate::rules::deeds::Blow;
+use crate::rules::deeds::Deeds;
+use crate::rules::deeds::Turned;
+use crate::rules::deeds::Verdict;
 use crate::station::Answer;
 use crate::station::Handled;
 use crate::station::Payload;
@@ -11,8 +13,11 @@ use crate::station::Station;
 use crate::station::Turn;
 use parts::frame::Dispatch;
 use parts::frame::Frame;
+use parts::frame::InformationFrame;
 use parts::frame::Whom;
+use parts::list::Flight;
 use parts::list::Message;
+use parts::live::Live;
 use parts::moves::Event;
 use parts::moves::State;
 
@@ -22,6 +27,13 @@ pub struct Stored {
     pub payload: Payload,
 }
 
+// The turn after an acknowledgement and a failing station, and what they do beside it.
+pub struct Course {
+    pub turn: Turn,
+    pub deeds: Deeds,
+}
+
+// 1. Checks.
 pub fn check_heard(s: Station, from: u8, to: u8) -> u32
     ensures { λ r. ⌜ r ≡ checks s from to ⌝ }
 {
@@ -29,6 +41,7 @@ pub fn check_heard(s: Station, from: u8, to: u8) -> u32
     plain_rules::refusals::heard_refusal(s.n, s.own, alive, from, to)
 }
 
+// 2. Acknowledgement.
 pub fn is_acknowledged(s: Station, from: u8, k: u16) -> bool
     ensures { λ r. ⌜ r ≡ acknowledged s from k ⌝ }
 {
@@ -41,68 +54,82 @@ pub fn is_acknowledged(s: Station, from: u8, k: u16) -> bool
     false
 }
 
+pub fn rest(t: Turn, acked: bool) -> Turn
+    ensures { λ r. ⌜ r ≡ rested t acked ⌝ }
+{
+    if acked {
+        return crate::station::resting(t, State::Idle);
+    }
+    t
+}
+
 // A message in flight leaves the list.
-pub fn land(s: Station) -> Station
-    ensures { λ r. ⌜ r ≡ landed s ⌝ }
+pub fn lands_by(t: Turn, acked: bool) -> Flight
+    ensures { λ r. ⌜ r ≡ landsBy t acked ⌝ }
 {
-    let turn = s.turn;
-    let awaited = turn.awaited;
-    let f = parts::frame::flight_of(awaited);
-    if f.on {
-        return crate::rules::strike::take_out(s, f.place);
+    if acked {
+        let awaited = t.awaited;
+        return parts::frame::flight_of(awaited);
     }
-    s
+    Flight {
+        on: false,
+        place: 0,
+    }
 }
 
-pub fn take_ack(s: Station, from: u8, k: u16) -> Station
-    ensures { λ r. ⌜ r ≡ acknowledge s from k ⌝ }
+// 3. A failing station.
+pub fn blow_at(live: Live, n: u8, own: u8, p: u8) -> Blow
+    ensures { λ r. ⌜ r ≡ blowAt live n own p ⌝ }
 {
-    if is_acknowledged(s, from, k) {
-        let t = land(s);
-        return crate::station::at_rest(t, State::Idle);
+    if p == own {
+        return Blow::Itself(p);
     }
-    s
+    let rest = parts::live::struck_from(live, p as usize);
+    let next = parts::live::next_live(rest, n, own);
+    if next == own {
+        return Blow::Last(p);
+    }
+    Blow::Another(p)
 }
 
-// 3. Another station is struck.
-pub fn strike_other(s: Station, p: u8, w: Whom) -> Struck
-    ensures { λ r. ⌜ r ≡ strikeOther s p w ⌝ }
-{
-    let t = crate::rules::strike::strike_out(s, p);
-    let l = crate::rules::strike::give_up_to(t, p);
-    if crate::station::is_alone(t) {
-        return crate::rules::strike::stop(l, w, State::Alone);
-    }
-    crate::rules::strike::tell(l, w)
-}
-
-pub fn strike_heard(s: Station, p: u8) -> Struck
-    ensures { λ r. ⌜ r ≡ strikeHeard s p ⌝ }
-{
-    let w = plain_rules::heard::newly_struck(s.live, p);
-    if p == s.own {
-        let station = crate::rules::strike::strike_out(s, p);
-        let gone = parts::list::empty();
-        let l = Loss { station, gone };
-        return crate::rules::strike::stop(l, w, State::Excluded);
-    }
-    strike_other(s, p, w)
-}
-
-pub fn fail(s: Station, w: Whom) -> Struck
-    ensures { λ r. ⌜ r ≡ failed s w ⌝ }
+pub fn blow_of(live: Live, n: u8, own: u8, w: Whom) -> Blow
+    ensures { λ r. ⌜ r ≡ blowOf live n own w ⌝ }
 {
     match w {
-        Whom::Nobody => {
-            let gone = parts::list::empty();
-            Struck {
-                station: s,
-                struck: Whom::Nobody,
-                gone,
-            }
-        }
-        Whom::Member(p) => strike_heard(s, p),
+        Whom::Nobody => Blow::Spares,
+        Whom::Member(p) => blow_at(live, n, own, p),
     }
+}
+
+// Excluded, or Alone where nobody else is left.
+pub fn close(t: Turn, blow: Blow) -> Turn
+    ensures { λ r. ⌜ r ≡ closed t blow ⌝ }
+{
+    match blow {
+        Blow::Spares => t,
+        Blow::Another(_) => t,
+        Blow::Last(_) => crate::station::resting(t, State::Alone),
+        Blow::Itself(_) => crate::station::resting(t, State::Excluded),
+    }
+}
+
+pub fn course_of(s: Station, f: Frame, acked: bool) -> Course
+    ensures { λ r. ⌜ r ≡ courseOf s f acked ⌝ }
+{
+    let t = rest(s.turn, acked);
+    let lands = lands_by(s.turn, acked);
+    let awaited = t.awaited;
+    let flight = parts::frame::flight_of(awaited);
+    let w = plain_rules::heard::failing_of(f);
+    let blow = blow_of(s.live, s.n, s.own, w);
+    let turn = close(t, blow);
+    let deeds = Deeds {
+        lands,
+        flight,
+        blow,
+        stores: Payload::NoPayload,
+    };
+    Course { turn, deeds }
 }
 
 // 4. What stops.
@@ -138,9 +165,10 @@ pub fn receive_it(s: Station, m: Message) -> Stored
 {
     let l = s.receives;
     if 16 <= l.len {
-        let lost = crate::station::add_up_to(s.lost, 1);
+        let mut counts = s.counts;
+        counts.lost = crate::station::add_up_to(counts.lost, 1);
         let mut station = s;
-        station.lost = lost;
+        station.counts = counts;
         return Stored {
             station,
             payload: Payload::NoPayload,
@@ -154,141 +182,119 @@ pub fn receive_it(s: Station, m: Message) -> Stored
     }
 }
 
-pub fn heard_message(s: Station, from: u8, priority: u8, channel: u8, length: u16) -> Message
-    ensures { λ r. ⌜ r ≡ heardMessage s from priority channel length ⌝ }
+pub fn heard_message(s: Station, from: u8, i: InformationFrame) -> Message
+    ensures { λ r. ⌜ r ≡ heardMessage s from i ⌝ }
 {
     let place = parts::list::lowest_free(s.receives);
     Message {
         other: from,
-        priority,
-        channel,
-        length,
+        priority: i.priority,
+        channel: i.channel,
+        length: i.length,
         place,
     }
 }
 
-pub fn store(s: Station, from: u8, f: Frame) -> Stored
-    ensures { λ r. ⌜ r ≡ stored s from f ⌝ }
+pub fn to_store(s: Station, from: u8, f: Frame) -> Payload
+    ensures { λ r. ⌜ r ≡ toStore s from f ⌝ }
 {
     match f {
-        Frame::Token {
-            number: _,
-            priority: _,
-            master: _,
-            failing: _,
-            named: _,
-        } => Stored {
-            station: s,
-            payload: Payload::NoPayload,
-        },
-        Frame::Transmit {
-            number: _,
-            priority: _,
-            master: _,
-            named: _,
-        } => Stored {
-            station: s,
-            payload: Payload::NoPayload,
-        },
-        Frame::Information {
-            number: _,
-            priority,
-            channel,
-            length,
-            place: _,
-        } => {
-            let m = heard_message(s, from, priority, channel, length);
-            receive_it(s, m)
+        Frame::Token(_) => Payload::NoPayload,
+        Frame::Transmit(_) => Payload::NoPayload,
+        Frame::Information(i) => {
+            let m = heard_message(s, from, i);
+            Payload::Of(m)
         }
     }
 }
 
-pub fn send_on(k: Struck, t: Stored, number: u16, d: Dispatch) -> Answer
-    ensures { λ r. ⌜ r ≡ sendOn k t number d ⌝ }
+pub fn stores_too(d: Deeds, stores: Payload) -> Deeds
+    ensures { λ r. ⌜ r ≡ storesToo d stores ⌝ }
 {
-    let s = t.station;
-    let handled = Handled::Last(number);
-    let station = crate::station::sends_out(s, handled, d);
-    let struck = k.struck;
-    let gone = k.gone;
-    let payload = t.payload;
-    Answer {
-        station,
-        number: 0,
-        sent: d,
-        struck,
-        gone,
-        payload,
+    let lands = d.lands;
+    let flight = d.flight;
+    let blow = d.blow;
+    Deeds {
+        lands,
+        flight,
+        blow,
+        stores,
     }
 }
 
-pub fn handle_it(k: Struck, t: Stored, f: Frame) -> Answer
-    ensures { λ r. ⌜ r ≡ handle k t f ⌝ }
+pub fn stay_quiet(k: Course) -> Verdict
+    ensures { λ r. ⌜ r ≡ quietly k ⌝ }
 {
-    let number = parts::frame::number_of(f);
-    let v = crate::rules::round::look(t.station);
-    let d = plain_rules::round::reply_to(v, f);
-    send_on(k, t, number, d)
+    let turn = k.turn;
+    let deeds = k.deeds;
+    crate::rules::deeds::verdict_of(0, turn, Dispatch::Nothing, deeds)
 }
 
-pub fn stay_silent(k: Struck) -> Answer
-    ensures { λ r. ⌜ r ≡ silent k ⌝ }
-{
-    let station = k.station;
-    let struck = k.struck;
-    let gone = k.gone;
-    Answer {
-        station,
-        number: 0,
-        sent: Dispatch::Nothing,
-        struck,
-        gone,
-        payload: Payload::NoPayload,
-    }
-}
-
-pub fn respond_to(k: Struck, from: u8, to: u8, f: Frame) -> Answer
-    ensures { λ r. ⌜ r ≡ respond k from to f ⌝ }
+// The number is recorded as handled and a frame is sent with the next number.
+pub fn reply(s: Station, f: Frame, from: u8, k: Course) -> Verdict
+    ensures { λ r. ⌜ r ≡ replying s f from k ⌝ }
 {
     let number = parts::frame::number_of(f);
-    let s = k.station;
-    if nothing_more(s.own, s.turn, to, number) {
-        return stay_silent(k);
-    }
-    let t = store(s, from, f);
-    handle_it(k, t, f)
-}
-
-// Steps 2 to 5.
-pub fn hear(s: Station, f: Frame, from: u8, to: u8) -> Answer
-    ensures { λ r. ⌜ r ≡ heard s f from to ⌝ }
-{
-    let number = parts::frame::number_of(f);
-    let t = take_ack(s, from, number);
     let w = plain_rules::heard::failing_of(f);
-    let k = fail(t, w);
-    respond_to(k, from, to, f)
+    let v = crate::rules::round::look_after(s, w);
+    let sent = plain_rules::round::reply_to(v, f);
+    let handled = Handled::Last(number);
+    let turn = crate::station::waiting(handled, sent);
+    let stores = to_store(s, from, f);
+    let deeds = stores_too(k.deeds, stores);
+    crate::rules::deeds::verdict_of(0, turn, sent, deeds)
+}
+
+pub fn hear(s: Station, f: Frame, from: u8, to: u8, k: Course) -> Verdict
+    ensures { λ r. ⌜ r ≡ hearing s f from to k ⌝ }
+{
+    let number = parts::frame::number_of(f);
+    if nothing_more(s.own, k.turn, to, number) {
+        return stay_quiet(k);
+    }
+    reply(s, f, from, k)
 }
 
 impl Station {
-    // A frame is heard, from one member to another.
-    pub fn frame(self, f: Frame, from: u8, to: u8) -> Answer
-        ensures { λ r. ⌜ r ≡ frameRule self f from to ⌝ }
+    // What a heard frame asks for.
+    pub fn decide(self, f: Frame, from: u8, to: u8) -> Verdict
+        ensures { λ r. ⌜ r ≡ decided self f from to ⌝ }
     {
         let turn = self.turn;
         let state = turn.state;
         let m = parts::moves::move_of(state, Event::Heard);
         if m != parts::moves::RUN {
-            return crate::station::number_alone(self, m);
+            return crate::rules::deeds::refuse(turn, m);
         }
         let k = check_heard(self, from, to);
         if k != 0 {
-            return crate::station::number_alone(self, k);
+            return crate::rules::deeds::refuse(turn, k);
         }
-        let l = crate::rules::light::light_of(self, f, from, to);
-        if l.ok {
-            return crate::rules::light::turn_alone(self, l);
+        let number = parts::frame::number_of(f);
+        let acked = is_acknowledged(self, from, number);
+        let course = course_of(self, f, acked);
+        hear(self, f, from, to, course)
+    }
+
+    // What a heard frame does to the turn.
+    pub fn turns(self, f: Frame, from: u8, to: u8) -> Turned
+        ensures { λ r. ⌜ r ≡ turnedBy self f from to ⌝ }
+    {
+        let v = self.decide(f, from, to);
+        let turn = v.turn;
+        let sent = v.sent;
+        Turned {
+            alone: v.alone,
+            turn,
+            sent,
         }
-        hear(self, f, from, to)
+    }
+
+    // A frame is heard, from one member to another.
+    pub fn frame(self, f: Frame, from: u8, to: u8) -> Answer
+        ensures { λ r. ⌜ r ≡ frameRule self f from to ⌝ }
+    {
+        let v = self.decide(f, from, to);
+        self.carry_out(v)
     }
 }

@@ -1,7 +1,6 @@
 // Queue.
 ghost use mathlib.Core.Path.{_≡_};
-ghost use Prim.Native.Nat.{_≤_};
-ghost use Rattle.codec.specs.Sizes.{mostInformation};
+ghost use Rattle.parts.specs.Messages.{Fits};
 ghost use Rattle.station.specs.Queue.{queueNumber, joining, accepted, queueRule};
 use crate::station::Answer;
 use crate::station::Payload;
@@ -10,13 +9,14 @@ use parts::frame::Dispatch;
 use parts::frame::Whom;
 use parts::list::Message;
 use parts::moves::Event;
+use parts::request::Request;
 
-pub fn check_queue(s: Station, to: usize, priority: usize, channel: usize, length: usize) -> u32
-    ensures { λ r. ⌜ r ≡ queueNumber s to priority channel length ⌝ }
+pub fn check_queue(s: Station, q: Request) -> u32
+    ensures { λ r. ⌜ r ≡ queueNumber s q ⌝ }
 {
-    let live = parts::live::is_live(s.live, to);
+    let live = parts::live::is_live(s.live, q.to);
     let l = s.sends;
-    plain_rules::refusals::queue_refusal(s.n, s.own, live, l.len, to, priority, channel, length)
+    plain_rules::refusals::queue_refusal(s.n, s.own, live, l.len, q)
 }
 
 pub fn join(s: Station, m: Message) -> Answer
@@ -35,28 +35,19 @@ pub fn join(s: Station, m: Message) -> Answer
     }
 }
 
-pub fn accept(s: Station, to: usize, priority: usize, channel: usize, length: usize) -> Answer
-    requires { ⌜ to ≤ 255 ⌝ }
-    requires { ⌜ priority ≤ 255 ⌝ }
-    requires { ⌜ channel ≤ 7 ⌝ }
-    requires { ⌜ length ≤ mostInformation ⌝ }
-    ensures { λ r. ⌜ r ≡ accepted s to priority channel length ⌝ }
+pub fn accept(s: Station, q: Request) -> Answer
+    requires { ⌜ Fits q ⌝ }
+    ensures { λ r. ⌜ r ≡ accepted s q ⌝ }
 {
     let place = parts::list::lowest_free(s.sends);
-    let m = Message {
-        other: to as u8,
-        priority: priority as u8,
-        channel: channel as u8,
-        length: length as u16,
-        place,
-    };
+    let m = parts::request::message_for(q, place);
     join(s, m)
 }
 
 impl Station {
-    // A message to the position `to` is handed over.
-    pub fn queue(self, to: usize, priority: usize, channel: usize, length: usize) -> Answer
-        ensures { λ r. ⌜ r ≡ queueRule self to priority channel length ⌝ }
+    // A message is handed over.
+    pub fn queue(self, q: Request) -> Answer
+        ensures { λ r. ⌜ r ≡ queueRule self q ⌝ }
     {
         let turn = self.turn;
         let state = turn.state;
@@ -64,10 +55,10 @@ impl Station {
         if m != parts::moves::RUN {
             return crate::station::number_alone(self, m);
         }
-        let k = check_queue(self, to, priority, channel, length);
+        let k = check_queue(self, q);
         if k != 0 {
             return crate::station::number_alone(self, k);
         }
-        accept(self, to, priority, channel, length)
+        accept(self, q)
     }
 }

@@ -1,41 +1,28 @@
 // Start.
 ghost use mathlib.Core.Path.{_≡_};
-ghost use Rattle.station.specs.Start.{sentFirst, started, startRule};
+ghost use Rattle.station.specs.Decide.{starting};
+ghost use Rattle.station.specs.Start.{startRule};
+use crate::rules::deeds::Verdict;
 use crate::station::Answer;
-use crate::station::Payload;
 use crate::station::Station;
 use parts::frame::Dispatch;
 use parts::frame::Whom;
 use parts::moves::Event;
 use parts::moves::State;
 
-pub fn send_first(s: Station, d: Dispatch) -> Answer
-    ensures { λ r. ⌜ r ≡ sentFirst s d ⌝ }
+pub fn starting_of(s: Station) -> Verdict
+    ensures { λ r. ⌜ r ≡ starting s ⌝ }
 {
     let turn = s.turn;
-    let handled = turn.handled;
-    let station = crate::station::sends_out(s, handled, d);
-    let gone = parts::list::empty();
-    Answer {
-        station,
-        number: 0,
-        sent: d,
-        struck: Whom::Nobody,
-        gone,
-        payload: Payload::NoPayload,
-    }
-}
-
-pub fn start_up(s: Station) -> Answer
-    ensures { λ r. ⌜ r ≡ started s ⌝ }
-{
     if s.own == 0 {
-        let v = crate::rules::round::look(s);
+        let v = crate::rules::round::look_after(s, Whom::Nobody);
         let d = plain_rules::round::round_from(v, 0, Whom::Nobody);
-        return send_first(s, d);
+        let handled = turn.handled;
+        let next = crate::station::waiting(handled, d);
+        return crate::rules::deeds::turn_to(next, d);
     }
-    let t = crate::station::at_rest(s, State::Idle);
-    crate::station::number_alone(t, 0)
+    let next = crate::station::resting(turn, State::Idle);
+    crate::rules::deeds::turn_to(next, Dispatch::Nothing)
 }
 
 impl Station {
@@ -49,6 +36,7 @@ impl Station {
         if m != parts::moves::RUN {
             return crate::station::number_alone(self, m);
         }
-        start_up(self)
+        let v = starting_of(self);
+        crate::rules::deeds::turn_alone(self, v)
     }
 }

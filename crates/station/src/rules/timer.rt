@@ -1,8 +1,10 @@
 // The timer of a Waiting station.
 ghost use mathlib.Core.Path.{_≡_};
-ghost use Prim.Native.Nat.{_<_};
-ghost use Rattle.station.specs.Timer.{onceMore, again, unanswered, leftAlone, goesOn, afterStrike, silence, onTimer, timerRule};
-use crate::rules::strike::Struck;
+ghost use Rattle.station.specs.Decide.{strikesOut, goingOn, lastTimer, waited, timing};
+ghost use Rattle.station.specs.Timer.{timerRule};
+use crate::rules::deeds::Blow;
+use crate::rules::deeds::Deeds;
+use crate::rules::deeds::Verdict;
 use crate::station::Answer;
 use crate::station::Payload;
 use crate::station::Station;
@@ -10,123 +12,68 @@ use crate::station::Turn;
 use parts::frame::Dispatch;
 use parts::frame::Frame;
 use parts::frame::Whom;
+use parts::list::Flight;
 use parts::moves::Event;
 use parts::moves::State;
 
-// One retry more, below the limit.
-pub fn once_more(s: Station) -> Station
-    requires { ⌜ s .turn .retries < 255 ⌝ }
-    ensures { λ r. ⌜ r ≡ onceMore s ⌝ }
-{
-    let t = s.turn;
-    let state = t.state;
-    let awaited = t.awaited;
-    let handled = t.handled;
-    let retries = t.retries + 1;
-    let u = Turn {
-        state,
-        awaited,
-        handled,
-        retries,
-    };
-    crate::station::with_turn(s, u)
-}
-
-// The same frame goes again.
-pub fn send_again(s: Station) -> Answer
-    requires { ⌜ s .turn .retries < 255 ⌝ }
-    ensures { λ r. ⌜ r ≡ again s ⌝ }
-{
-    let t = s.turn;
-    let sent = t.awaited;
-    let station = once_more(s);
-    let gone = parts::list::empty();
-    Answer {
-        station,
-        number: 0,
-        sent,
-        struck: Whom::Nobody,
-        gone,
-        payload: Payload::NoPayload,
-    }
-}
-
 // The addressee is struck, and what goes with it is given up.
-pub fn give_up_on(s: Station, to: u8) -> Struck
-    ensures { λ r. ⌜ r ≡ unanswered s to ⌝ }
+pub fn strike_out(s: Station, to: u8, turn: Turn, sent: Dispatch) -> Verdict
+    ensures { λ r. ⌜ r ≡ strikesOut s to turn sent ⌝ }
 {
-    let w = plain_rules::heard::newly_struck(s.live, to);
-    let t = crate::rules::strike::strike_out(s, to);
-    let l = crate::rules::strike::give_up_to(t, to);
-    let m = crate::rules::strike::give_up_flight(l);
-    crate::rules::strike::tell(m, w)
+    let t = s.turn;
+    let awaited = t.awaited;
+    let flight = parts::frame::flight_of(awaited);
+    let deeds = Deeds {
+        lands: Flight {
+            on: false,
+            place: 0,
+        },
+        flight,
+        blow: Blow::Last(to),
+        stores: Payload::NoPayload,
+    };
+    crate::rules::deeds::verdict_of(0, turn, sent, deeds)
 }
 
-pub fn stay_alone(k: Struck) -> Answer
-    ensures { λ r. ⌜ r ≡ leftAlone k ⌝ }
+pub fn go_on(s: Station, to: u8, d: Dispatch) -> Verdict
+    ensures { λ r. ⌜ r ≡ goingOn s to d ⌝ }
 {
-    let station = crate::station::at_rest(k.station, State::Alone);
-    let struck = k.struck;
-    let gone = k.gone;
-    Answer {
-        station,
-        number: 0,
-        sent: Dispatch::Nothing,
-        struck,
-        gone,
-        payload: Payload::NoPayload,
-    }
+    let t = s.turn;
+    let handled = t.handled;
+    let turn = crate::station::waiting(handled, d);
+    strike_out(s, to, turn, d)
 }
 
-pub fn go_on(k: Struck, d: Dispatch) -> Answer
-    ensures { λ r. ⌜ r ≡ goesOn k d ⌝ }
+pub fn last_timer(s: Station, to: u8, f: Frame) -> Verdict
+    ensures { λ r. ⌜ r ≡ lastTimer s to f ⌝ }
 {
-    let s = k.station;
-    let turn = s.turn;
-    let handled = turn.handled;
-    let station = crate::station::sends_out(s, handled, d);
-    let struck = k.struck;
-    let gone = k.gone;
-    Answer {
-        station,
-        number: 0,
-        sent: d,
-        struck,
-        gone,
-        payload: Payload::NoPayload,
+    let v = crate::rules::round::look_after(s, Whom::Member(to));
+    if v.next == s.own {
+        let turn = crate::station::resting(s.turn, State::Alone);
+        return strike_out(s, to, turn, Dispatch::Nothing);
     }
-}
-
-pub fn after_strike(k: Struck, to: u8, f: Frame) -> Answer
-    ensures { λ r. ⌜ r ≡ afterStrike k to f ⌝ }
-{
-    let s = k.station;
-    if crate::station::is_alone(s) {
-        return stay_alone(k);
-    }
-    let t = crate::station::at_rest(s, State::Idle);
-    let v = crate::rules::round::look(t);
     let d = plain_rules::resend::send_instead(v, to, f);
-    go_on(k, d)
+    go_on(s, to, d)
 }
 
-pub fn hear_nothing(s: Station, to: u8, f: Frame) -> Answer
-    ensures { λ r. ⌜ r ≡ silence s to f ⌝ }
+pub fn wait_on(s: Station, to: u8, f: Frame) -> Verdict
+    ensures { λ r. ⌜ r ≡ waited s to f ⌝ }
 {
     let t = s.turn;
     if t.retries < s.limit {
-        return send_again(s);
+        let turn = crate::station::more_turn(t);
+        let sent = t.awaited;
+        return crate::rules::deeds::turn_to(turn, sent);
     }
-    let k = give_up_on(s, to);
-    after_strike(k, to, f)
+    last_timer(s, to, f)
 }
 
-pub fn run_timer(s: Station, awaited: Dispatch) -> Answer
-    ensures { λ r. ⌜ r ≡ onTimer s awaited ⌝ }
+pub fn timing_of(s: Station, awaited: Dispatch) -> Verdict
+    ensures { λ r. ⌜ r ≡ timing s awaited ⌝ }
 {
     match awaited {
-        Dispatch::Nothing => crate::station::number_alone(s, 0),
-        Dispatch::Sent { frame, to } => hear_nothing(s, to, frame),
+        Dispatch::Nothing => crate::rules::deeds::refuse(s.turn, 0),
+        Dispatch::Sent { frame, to } => wait_on(s, to, frame),
     }
 }
 
@@ -142,6 +89,7 @@ impl Station {
             return crate::station::number_alone(self, m);
         }
         let awaited = turn.awaited;
-        run_timer(self, awaited)
+        let v = timing_of(self, awaited);
+        self.carry_out(v)
     }
 }

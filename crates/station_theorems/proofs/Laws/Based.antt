@@ -90,9 +90,9 @@ pub in-flight : (st : State) (n own : ℕ) (l : Messages) (d : Dispatch) → awa
     → best (HasPlace (flight d .place)) l .some ≡ true
 unfolding awaitedGood carried sameMessage
 in-flight st n own l Nothing e on = absurd (false≢true on)
-in-flight st n own l (Sent (Token number priority master failing named) to) e on = absurd (false≢true on)
-in-flight st n own l (Sent (Transmit number priority master named) to) e on = absurd (false≢true on)
-in-flight st n own l (Sent (Information number priority channel length place) to) e on = held _ (held _ e .1 .1 .1 .1 .0) .0
+in-flight st n own l (Sent (Token t) to) e on = absurd (false≢true on)
+in-flight st n own l (Sent (Transmit t) to) e on = absurd (false≢true on)
+in-flight st n own l (Sent (Information i) to) e on = held _ (held _ e .1 .1 .1 .1 .0) .0
 
 -- no frame is awaited but when Waiting
 pub idle-flight : (st : State) (n own : ℕ) (l : Messages) (d : Dispatch) → isWaiting st ≡ false → awaitedGood st n own l d ≡ true → flight d ≡ noFlight

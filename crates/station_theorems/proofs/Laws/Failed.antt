@@ -11,7 +11,7 @@ use Rattle.parts.specs.Messages.{splitBy}
 use Rattle.parts.specs.Live.{liveAt, without}
 use Rattle.parts.specs.Frames.{flight}
 use Rattle.station.specs.Stations.{stateOf, awaitedOf, alone, quiet, counted, withSends}
-use Rattle.station.specs.Strike.{strike, nothingGone, giveUpTo, leave, told, stopped}
+use Rattle.station.specs.Strike.{Loss, strike, nothingGone, giveUpTo, leave, told, stopped}
 use Rattle.plain_rules.specs.Heard.{newly}
 use Rattle.station.specs.Heard.{strikeOther, strikeHeard, failed}
 use Rattle.wholeness.specs.Whole.{ownSeat, otherSeat, companyGood, listGood, waitersGood, awaitedGood}
@@ -20,7 +20,6 @@ use Rattle.parts.specs.declared.moves.Event.the-variants.{Heard}
 use Rattle.parts.specs.declared.list.Messages.{Messages}
 use Rattle.parts.specs.declared.frame.Whom.{Whom}
 use Rattle.parts.specs.declared.frame.Whom.the-variants.{Nobody, Member}
-use Rattle.station.specs.declared.rules.strike.Loss.{Loss}
 use Rattle.station.specs.declared.station.Station.{Station}
 use Rattle.parts.proofs.Laws.Choose.{pick-true}
 use Rattle.station_theorems.proofs.Laws.Kept.{list-only}

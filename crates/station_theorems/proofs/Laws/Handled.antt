@@ -12,15 +12,16 @@ use Rattle.parts.specs.Choose.{pick}
 use Rattle.parts.specs.Moves.{isIdle, isWaiting, isExcluded}
 use Rattle.parts.specs.Messages.{all, pushed, hasPlace, lowestFree}
 use Rattle.parts.specs.Frames.{noFlight, fit}
+use Rattle.station.specs.Strike.{Struck}
 use Rattle.station.specs.Stations.{stateOf, awaitedOf, alone, addUpTo, withLost, withReceives}
 use Rattle.station.specs.Heard.{isLast, nothingMore, heardMessage, receive, stored, handle}
 use Rattle.wholeness.specs.Whole.{ownSeat, companyGood, messageGood}
 use Rattle.parts.specs.declared.moves.State.{State}
 use Rattle.parts.specs.declared.moves.State.the-variants.{Idle}
 use Rattle.parts.specs.declared.list.Message.{Message}
+use Rattle.parts.specs.declared.frame.InformationFrame.{InformationFrame}
 use Rattle.parts.specs.declared.frame.Frame.{Frame}
 use Rattle.parts.specs.declared.frame.Frame.the-variants.{Token, Transmit, Information}
-use Rattle.station.specs.declared.rules.strike.Struck.{Struck}
 use Rattle.station.specs.declared.rules.heard.Stored.{Stored}
 use Rattle.station.specs.declared.station.Station.{Station}
 use Rattle.station.specs.declared.station.Payload.the-variants.{NoPayload, Of}
@@ -100,18 +101,18 @@ module _ (s : Station) (b : Based noFlight s) (a : alone s ≡ false) (from : �
         same-n = refl;
       }
 
-  received : (priority channel length′ : ℕ) → eqb priority 0 ≡ false → ltb 7 channel ≡ false → leb length′ 1492 ≡ true
-      → Ready s (receive s (heardMessage s from priority channel length′) .station)
+  received : (i : InformationFrame) → eqb (i .priority) 0 ≡ false → ltb 7 (i .channel) ≡ false → leb (i .length) 1492 ≡ true
+      → Ready s (receive s (heardMessage s from i) .station)
   unfolding receive pick messageGood
-  received priority channel length′ x y z = go (leb 16 (s .receives .len)) refl
+  received i x y z = go (leb 16 (s .receives .len)) refl
     where
       m : Message
-      m = heardMessage s from priority channel length′
+      m = heardMessage s from i
 
       go : (t : Bool) → leb 16 (s .receives .len) ≡ t
           → Ready s
           (pick {A = Stored} t
-          (record { station = withLost s (addUpTo (s .lost) 1); payload = NoPayload })
+          (record { station = withLost s (addUpTo (s .counts .lost) 1); payload = NoPayload })
           (record { station = withReceives s (pushed (s .receives) m); payload = Of m })
           .station)
       go true t = lost-one _
@@ -125,7 +126,7 @@ module _ (s : Station) (b : Based noFlight s) (a : alone s ≡ false) (from : �
             (
               ap not x,
               (
-                le-leb channel 7 (ltb-false 7 channel y),
+                le-leb (i .channel) 7 (ltb-false 7 (i .channel) y),
                 (
                   z,
                   (
@@ -140,12 +141,12 @@ module _ (s : Station) (b : Based noFlight s) (a : alone s ≡ false) (from : �
 
   pub stored-ready : (f : Frame) → fit (s .n) f ≡ true → Ready s (stored s from f .station)
   unfolding stored
-  stored-ready (Token number priority master failing named) e = record { based = b; others = a; same-n = refl }
-  stored-ready (Transmit number priority master named) e = record { based = b; others = a; same-n = refl }
-  stored-ready (Information number priority channel length′ place) e =
+  stored-ready (Token t) e = record { based = b; others = a; same-n = refl }
+  stored-ready (Transmit t) e = record { based = b; others = a; same-n = refl }
+  stored-ready (Information i) e =
       let t = passes e in
       let u = passes (t .1) in
-      received priority channel length′ (t .0) (u .0) (u .1)
+      received i (t .0) (u .0) (u .1)
 
 pub handle-sound : (s : Station) (k : Struck) (t : Stored) (f : Frame) → Ready s (t .station) → fit (s .n) f ≡ true → Sound (handle k t f .station)
 unfolding handle

@@ -7,6 +7,7 @@ use native.Mathlib.Omega.{arith}
 use lib.ListN.{length}
 use Rattle.parts.specs.Messages.{all, flies, fits, only}
 use Rattle.parts.specs.Frames.{numberOf, flight, failingOf}
+use Rattle.station.specs.Strike.{Struck}
 use Rattle.station.specs.Stations.{awaitedOf, withTurn, withSends, quiet}
 use Rattle.station.specs.Heard.{acknowledged, landed, acknowledge, failed, receive, stored, handle, respond, heard}
 use Rattle.station.specs.Timer.{unanswered, afterStrike}
@@ -22,7 +23,6 @@ use Rattle.parts.specs.declared.frame.Frame.the-variants.{Token, Transmit, Info
 use Rattle.parts.specs.declared.frame.Dispatch.{Dispatch}
 use Rattle.parts.specs.declared.frame.Dispatch.the-variants.{Nothing}
 use Rattle.station.specs.declared.station.Station.{Station}
-use Rattle.station.specs.declared.rules.strike.Struck.{Struck}
 use Rattle.station.specs.declared.rules.heard.Stored.{Stored}
 use Rattle.parts.proofs.Laws.Choose.{pick-true, pick-false}
 use Rattle.parts.proofs.Laws.Messages.{only-length}
@@ -120,9 +120,9 @@ receive-sends s m = pick-either (λ (t : Stored). t .station .sends ≡ s .sends
 
 stored-sends : (s : Station) (from : ℕ) (f : Frame) → stored s from f .station .sends ≡ s .sends
 unfolding stored
-stored-sends s from (Token number priority master failing named) = refl
-stored-sends s from (Transmit number priority master named) = refl
-stored-sends s from (Information number priority channel length′ place) = receive-sends s _
+stored-sends s from (Token t) = refl
+stored-sends s from (Transmit t) = refl
+stored-sends s from (Information i) = receive-sends s _
 
 respond-leaves : (s : Station) (k : Struck) (w : Whom) (flew landed : Bool) (from to : ℕ) (f : Frame) → Leaves s (k .station) (k .gone) w flew landed
     → AnswerLeaves s w flew landed (respond k from to f)

@@ -11,7 +11,7 @@ use Rattle.parts.specs.Choose.{pick}
 use Rattle.parts.specs.Messages.{all, none, flies, fits, only}
 use Rattle.parts.specs.Frames.{flight}
 use Rattle.station.specs.Stations.{awaitedOf, alone}
-use Rattle.station.specs.Strike.{strike, nothingGone, giveUpTo, giveUpFlight}
+use Rattle.station.specs.Strike.{Struck, strike, nothingGone, giveUpTo, giveUpFlight}
 use Rattle.plain_rules.specs.Heard.{newly}
 use Rattle.station.specs.Heard.{landed, strikeOther, strikeHeard, failed}
 use Rattle.wholeness.specs.Whole.{apart}
@@ -22,7 +22,6 @@ use Rattle.parts.specs.declared.frame.Whom.{Whom}
 use Rattle.parts.specs.declared.frame.Whom.the-variants.{Nobody, Member}
 use Rattle.station.specs.declared.station.Station.{Station}
 use Rattle.station.specs.declared.station.Answer.{Answer}
-use Rattle.station.specs.declared.rules.strike.Struck.{Struck}
 use Rattle.parts.proofs.Laws.Choose.{pick-true, pick-false}
 use Rattle.station_theorems.proofs.Laws.Only.{only-same, only-all, only-nothing, only-twice}
 use Rattle.station_theorems.proofs.Laws.Leaving.{flight-leaves, to-kept, to-told, to-ready}

@@ -10,7 +10,7 @@ use borrow.Author.Tests.{eq-eqb, ne-eqb, eqb-true, eqb-false}
 use Rattle.parts.specs.Messages.{all, flies, fits, only, splitBy, noBest, theBest, bestOf, best, hasPlace}
 use Rattle.parts.specs.Frames.{flight}
 use Rattle.station.specs.Stations.{awaitedOf}
-use Rattle.station.specs.Strike.{giveUpTo, giveUpAt, giveUpFlight}
+use Rattle.station.specs.Strike.{Loss, giveUpTo, giveUpAt, giveUpFlight}
 use Rattle.wholeness.specs.Whole.{apart}
 use Rattle.parts.specs.declared.list.Message.{Message}
 use Rattle.parts.specs.declared.list.Messages.{Messages}
@@ -19,7 +19,6 @@ use Rattle.parts.specs.declared.list.Best.{Best}
 use Rattle.parts.specs.declared.list.Which.{Which}
 use Rattle.parts.specs.declared.list.Which.the-variants.{WaitingFor, HasPlace}
 use Rattle.station.specs.declared.station.Station.{Station}
-use Rattle.station.specs.declared.rules.strike.Loss.{Loss}
 use Rattle.parts.proofs.Laws.Choose.{pick-true, pick-false}
 use Rattle.parts.proofs.Laws.Messages.{place-here, best-none, best-more, better-first, only-length}
 use Rattle.station_theorems.proofs.Laws.Places.{place-of}

@@ -11,7 +11,7 @@ use Rattle.parts.specs.Live.{liveAt, successor}
 use Rattle.parts.specs.Frames.{next, memberOrNobody, fit}
 use Rattle.station.specs.Stations.{alone, head}
 use Rattle.station.specs.Round.{sight}
-use Rattle.plain_rules.specs.Round.{startRound, informationOf, sendHead, grant, returned, ownBid, cleared, raised, forward, passOn, onToken, reply}
+use Rattle.plain_rules.specs.Round.{startRound, carrying, informationOf, sendHead, granting, grant, returned, bidOf, ownBid, cleared, raised, forward, passOn, onToken, reply}
 use Rattle.plain_rules.specs.Resend.{renamed, tokenAgain, resend}
 use Rattle.wholeness.specs.Whole.{messageGood, listGood, sameMessage, carried, awaitedGood}
 use Rattle.parts.specs.declared.moves.State.the-variants.{Waiting}
@@ -19,6 +19,7 @@ use Rattle.parts.specs.declared.list.Message.{Message}
 use Rattle.parts.specs.declared.list.Best.{Best}
 use Rattle.parts.specs.declared.frame.Whom.{Whom}
 use Rattle.parts.specs.declared.frame.Whom.the-variants.{Nobody, Member}
+use Rattle.parts.specs.declared.frame.TokenFrame.{TokenFrame}
 use Rattle.parts.specs.declared.frame.Frame.{Frame}
 use Rattle.parts.specs.declared.frame.Frame.the-variants.{Token, Transmit, Information}
 use Rattle.parts.specs.declared.frame.Dispatch.{Dispatch}
@@ -73,22 +74,22 @@ module _ (s : Station) (member : s .own < s .n) (good : listGood (s .n) (s .own)
   proper f to a b c d = hold _ (refl, (a, (lt-ltb to (s .n) b, (ap not (ne-eqb to (s .own) c), (d, tt)))))
 
   -- a token to the successor
-  token-proper : (number priority master : ℕ) (failing : Whom) (named : ℕ) → master < s .n → memberOrNobody (s .n) failing ≡ true → named < s .n
-      → Proper (Sent (Token number priority master failing named) (successor (s .live) (s .n) (s .own)))
+  token-proper : (t : TokenFrame) → t .master < s .n → memberOrNobody (s .n) (t .failing) ≡ true → t .named < s .n
+      → Proper (Sent (Token t) (successor (s .live) (s .n) (s .own)))
   unfolding carried
-  token-proper number priority master failing named a b c =
+  token-proper t a b c =
       let k = successor-is (s .n) (s .own) member (s .live) .next (eqb-false _ _ others) in
-      proper (Token number priority master failing named) (successor (s .live) (s .n) (s .own)) (pass (lt-leb (s .n) master a) (pass (lt-leb (s .n) named c) b)) (k .member) (k .another) refl
+      proper (Token t) (successor (s .live) (s .n) (s .own)) (pass (lt-leb (s .n) (t .master) a) (pass (lt-leb (s .n) (t .named) c) b)) (k .member) (k .another) refl
 
   pub round-proper : (number : ℕ) (failing : Whom) → memberOrNobody (s .n) failing ≡ true → Proper (startRound (sight s) number failing)
   unfolding startRound
-  round-proper number failing e = token-proper number _ (s .own) failing (s .own) member e member
+  round-proper number failing e = token-proper _ member e member
 
   -- the head
-  found-same : (b : Best) (m : Message) → b ≡ theBest m → sameMessage b (m .other) (m .priority) (m .channel) (m .length) ≡ true
+  found-same : (number : ℕ) (b : Best) (m : Message) → b ≡ theBest m → sameMessage b (m .other) (carrying number m) ≡ true
   unfolding sameMessage
-  found-same b m e =
-      ap (λ (x : Best). sameMessage x (m .other) (m .priority) (m .channel) (m .length)) e
+  found-same number b m e =
+      ap (λ (x : Best). sameMessage x (m .other) (carrying number m)) e
       ∙ hold _ (
         refl,
         (
@@ -109,11 +110,11 @@ module _ (s : Station) (member : s .own < s .n) (good : listGood (s .n) (s .own)
       let m : Message = head s .message in
       let f = head-is-first s .first e in
       let g = held _ (each-within (messageGood (s .n) (s .own)) m (f .before) (f .behind) (ap (every (messageGood (s .n) (s .own))) (sym (f .stands)) ∙ list-messages (s .n) (s .own) (s .sends) good)) in
-      proper (Information number (m .priority) (m .channel) (m .length) (m .place)) (m .other)
+      proper (Information (carrying number m)) (m .other)
       (pass (not-true _ (g .1 .0)) (pass (le-ltb 7 (m .channel) (leb-true (m .channel) 7 (g .1 .1 .0))) (g .1 .1 .1 .0)))
       (ltb-true (m .other) (s .n) (g .1 .1 .1 .1 .0))
       (eqb-false (m .other) (s .own) (not-true _ (g .1 .1 .1 .1 .1 .0)))
-      (found-same _ m (best-found (all (s .sends)) (f .before) (f .behind) m (list-apart (s .n) (s .own) (s .sends) good) (f .stands)))
+      (found-same number _ m (best-found (all (s .sends)) (f .before) (f .behind) m (list-apart (s .n) (s .own) (s .sends) good) (f .stands)))
 
   send-proper : (number : ℕ) → Proper (sendHead (sight s) number)
   unfolding sendHead
@@ -123,7 +124,7 @@ module _ (s : Station) (member : s .own < s .n) (good : listGood (s .n) (s .own)
   unfolding grant carried
   grant-proper number priority named a b c =
       either Proper _ _ _
-      (λ e. proper (Transmit number priority (s .own) named) named (pass (ne-eqb priority 0 a) (pass (lt-leb (s .n) (s .own) member) (lt-ltb named (s .n) b))) b c refl)
+      (λ e. proper (Transmit (granting number priority (s .own) named)) named (pass (ne-eqb priority 0 a) (pass (lt-leb (s .n) (s .own) member) (lt-ltb named (s .n) b))) b c refl)
       (λ e. round-proper number Nobody refl)
 
   returned-proper : (number priority named : ℕ) → named < s .n → Proper (returned (sight s) number priority named)
@@ -145,42 +146,42 @@ module _ (s : Station) (member : s .own < s .n) (good : listGood (s .n) (s .own)
   unfolding renamed
   bid-renamed to b h = bid-of (s .n) _ (ownBid (sight s)) b member h
 
-  pass-proper : (number master : ℕ) (failing : Whom) (b : Bid) → master < s .n → memberOrNobody (s .n) failing ≡ true → b .named < s .n
-      → Proper (passOn (sight s) number master failing b)
+  pass-proper : (number : ℕ) (t : TokenFrame) → t .master < s .n → memberOrNobody (s .n) (t .failing) ≡ true → t .named < s .n
+      → Proper (passOn (sight s) number t)
   unfolding passOn
-  pass-proper number master failing b x y z =
+  pass-proper number t x y z =
       either Proper _ _ _
-      (λ e. token-proper number _ master failing _ x y (bid-raised (cleared (sight s) b) (bid-cleared b z)))
+      (λ e. token-proper _ x y (bid-raised (cleared (sight s) (bidOf t)) (bid-cleared (bidOf t) z)))
       (λ e. round-proper number Nobody refl)
 
   -- the frame sent on a heard one
   pub reply-proper : (f : Frame) → fit (s .n) f ≡ true → Proper (reply (sight s) f)
   unfolding reply onToken
-  reply-proper (Token number priority master failing named) e =
-      let t = passes e in
-      let u = passes (t .1) in
+  reply-proper (Token t) e =
+      let m = passes e in
+      let u = passes (m .1) in
       either Proper _ _ _
-      (λ x. returned-proper (next number) priority named (leb-false (s .n) named (u .0)))
-      (λ x. pass-proper (next number) master failing (record { priority = priority; named = named }) (leb-false (s .n) master (t .0)) (u .1) (leb-false (s .n) named (u .0)))
-  reply-proper (Transmit number priority master named) e = send-proper (next number)
-  reply-proper (Information number priority channel length place) e = round-proper (next number) Nobody refl
+      (λ x. returned-proper (next (t .number)) (t .priority) (t .named) (leb-false (s .n) (t .named) (u .0)))
+      (λ x. pass-proper (next (t .number)) t (leb-false (s .n) (t .master) (m .0)) (u .1) (leb-false (s .n) (t .named) (u .0)))
+  reply-proper (Transmit t) e = send-proper (next (t .number))
+  reply-proper (Information i) e = round-proper (next (i .number)) Nobody refl
 
   -- the frame sent in place of one that `to` did not acknowledge
-  again-proper : (number to master : ℕ) (b : Bid) → to < s .n → master < s .n → b .named < s .n → Proper (tokenAgain (sight s) number to master b)
+  again-proper : (number to : ℕ) (t : TokenFrame) → to < s .n → t .master < s .n → t .named < s .n → Proper (tokenAgain (sight s) number to t)
   unfolding tokenAgain
-  again-proper number to master b h x z =
+  again-proper number to t h x z =
       let anew : Dispatch = startRound (sight s) number (Member to) in
-      let on : Dispatch = forward (sight s) number master (Member to) (renamed (sight s) to b) in
-      let gone : Bool = not (liveAt (s .live) master) in
+      let on : Dispatch = forward (sight s) number t (Member to) (renamed (sight s) to (bidOf t)) in
+      let gone : Bool = not (liveAt (s .live) (t .master)) in
       let anew-proper : Proper anew = round-proper number (Member to) (lt-ltb to (s .n) h) in
-      first-of Proper (eqb master (s .own)) anew (cond gone anew on) (λ e. anew-proper)
-      (λ e. first-of Proper gone anew on (λ e′. anew-proper) (λ e′. token-proper number _ master (Member to) _ x (lt-ltb to (s .n) h) (bid-renamed to b z)))
+      first-of Proper (eqb (t .master) (s .own)) anew (cond gone anew on) (λ e. anew-proper)
+      (λ e. first-of Proper gone anew on (λ e′. anew-proper) (λ e′. token-proper _ x (lt-ltb to (s .n) h) (bid-renamed to (bidOf t) z)))
 
   pub resend-proper : (to : ℕ) (f : Frame) → to < s .n → fit (s .n) f ≡ true → Proper (resend (sight s) to f)
   unfolding resend
-  resend-proper to (Token number priority master failing named) h e =
-      let t = passes e in
-      let u = passes (t .1) in
-      again-proper (next number) to master (record { priority = priority; named = named }) h (leb-false (s .n) master (t .0)) (leb-false (s .n) named (u .0))
-  resend-proper to (Transmit number priority master named) h e = round-proper (next number) (Member to) (lt-ltb to (s .n) h)
-  resend-proper to (Information number priority channel length place) h e = round-proper (next number) (Member to) (lt-ltb to (s .n) h)
+  resend-proper to (Token t) h e =
+      let m = passes e in
+      let u = passes (m .1) in
+      again-proper (next (t .number)) to t h (leb-false (s .n) (t .master) (m .0)) (leb-false (s .n) (t .named) (u .0))
+  resend-proper to (Transmit t) h e = round-proper (next (t .number)) (Member to) (lt-ltb to (s .n) h)
+  resend-proper to (Information i) h e = round-proper (next (i .number)) (Member to) (lt-ltb to (s .n) h)

@@ -14,13 +14,14 @@ use Rattle.parts.specs.Live.{liveAt}
 use Rattle.parts.specs.Frames.{numberOf, next}
 use Rattle.station.specs.Stations.{awaitedOf, addUpTo, head}
 use Rattle.station.specs.Round.{sight}
-use Rattle.plain_rules.specs.Round.{priorityOf, startRound, sendHead, grant, returned, cleared, raised, passOn, onToken, reply}
+use Rattle.plain_rules.specs.Round.{priorityOf, startRound, sendHead, grant, returned, bidOf, cleared, raised, passOn, onToken, reply}
 use Rattle.parts.specs.declared.list.Message.{Message}
 use Rattle.parts.specs.declared.list.Messages.{Messages}
 use Rattle.parts.specs.declared.list.Which.{Which}
 use Rattle.parts.specs.declared.list.Best.{Best}
 use Rattle.parts.specs.declared.frame.Whom.{Whom}
 use Rattle.parts.specs.declared.frame.Whom.the-variants.{Nobody}
+use Rattle.parts.specs.declared.frame.TokenFrame.{TokenFrame}
 use Rattle.parts.specs.declared.frame.Frame.{Frame}
 use Rattle.parts.specs.declared.frame.Frame.the-variants.{Token, Transmit, Information}
 use Rattle.parts.specs.declared.frame.Dispatch.{Dispatch}
@@ -40,9 +41,9 @@ abbrev pub smallMessage : Message → Bool
 smallMessage m = ltb (m .priority) 256
 
 abbrev pub framePriority : Frame → ℕ
-framePriority (Token number priority master failing named) = priority
-framePriority (Transmit number priority master named) = priority
-framePriority (Information number priority channel length place) = priority
+framePriority (Token t) = t .priority
+framePriority (Transmit t) = t .priority
+framePriority (Information i) = i .priority
 
 pub record SmallFrame (f : Frame) : Type 0 where
   pub number : numberOf f < 65536
@@ -69,8 +70,8 @@ pub record Small (n limit : ℕ) (s : Station) : Type 0 where
   pub receives : SmallList (s .receives)
   pub awaited : SmallDispatch (awaitedOf s)
   pub handled : SmallHandled (s .turn .handled)
-  pub lost : s .lost < 4294967296
-  pub givenup : s .givenup < 4294967296
+  pub lost : s .counts .lost < 4294967296
+  pub givenup : s .counts .givenup < 4294967296
 
 -- ---- of two, either is small
 
@@ -166,21 +167,22 @@ module _ (v : Sight) (h : SmallBest (v .head)) (k : ℕ) (small : k < 65536) whe
       go false true = send-small
       go false false = grant-small priority named p
 
-  passed-small : (master : ℕ) (w : Whom) (b : Bid) → b .priority < 256 → SmallDispatch (passOn v k master w b)
+  passed-small : (t : TokenFrame) → t .priority < 256 → SmallDispatch (passOn v k t)
   unfolding passOn raised cleared
-  passed-small master w b p =
+  passed-small t p =
+      let b : Bid = bidOf t in
       let own : ℕ = priorityOf (v .head) in
       let clear : cleared v b .priority < 256 = pick-keeps (λ (x : Bid). x .priority < 256) (liveAt (v .live) (b .named)) b _ p own-small in
       let raise : raised v (cleared v b) .priority < 256 = pick-keeps (λ (x : Bid). x .priority < 256) (ltb (cleared v b .priority) own) _ (cleared v b) own-small clear in
-      pick-keeps SmallDispatch (liveAt (v .live) master) _ _ (record { number = small; priority = raise }) (start-small _)
+      pick-keeps SmallDispatch (liveAt (v .live) (t .master)) _ _ (record { number = small; priority = raise }) (start-small _)
 
-  token-small : (priority master : ℕ) (w : Whom) (named : ℕ) → priority < 256 → SmallDispatch (onToken v k priority master w named)
+  token-small : (t : TokenFrame) → t .priority < 256 → SmallDispatch (onToken v k t)
   unfolding onToken
-  token-small priority master w named p =
-      pick-keeps SmallDispatch (eqb master (v .own)) _ _ (returned-small priority named p) (passed-small master w _ p)
+  token-small t p =
+      pick-keeps SmallDispatch (eqb (t .master) (v .own)) _ _ (returned-small (t .priority) (t .named) p) (passed-small t p)
 
 pub reply-small : (v : Sight) → SmallBest (v .head) → (f : Frame) → SmallFrame f → SmallDispatch (reply v f)
 unfolding reply
-reply-small v h (Token number priority master failing named) s = token-small v h (next number) (next-small number) priority master failing named (s .priority)
-reply-small v h (Transmit number priority master named) s = send-small v h (next number) (next-small number)
-reply-small v h (Information number priority channel length place) s = start-small v h (next number) (next-small number) _
+reply-small v h (Token t) s = token-small v h (next (t .number)) (next-small (t .number)) t (s .priority)
+reply-small v h (Transmit t) s = send-small v h (next (t .number)) (next-small (t .number))
+reply-small v h (Information i) s = start-small v h (next (i .number)) (next-small (i .number)) _

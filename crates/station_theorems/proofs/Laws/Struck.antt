@@ -13,7 +13,7 @@ use Rattle.parts.specs.Messages.{all, flies, fits, only, pack, splitBy, best, b
 use Rattle.parts.specs.Live.{liveAt, without}
 use Rattle.parts.specs.Frames.{noFlight, flight}
 use Rattle.station.specs.Stations.{stateOf, awaitedOf, alone, counted}
-use Rattle.station.specs.Strike.{strike, giveUpTo, leave, giveUpAt, giveUpFlight}
+use Rattle.station.specs.Strike.{Loss, strike, giveUpTo, leave, giveUpAt, giveUpFlight}
 use Rattle.wholeness.specs.Whole.{ownSeat, otherSeat, companyGood, listGood, waitsWell, waitersGood, sameMessage, carried, awaitedGood}
 use Rattle.parts.specs.declared.moves.State.{State}
 use Rattle.parts.specs.declared.moves.Event.the-variants.{Heard}
@@ -26,7 +26,6 @@ use Rattle.parts.specs.declared.list.Which.the-variants.{WaitingFor, HasPlace}
 use Rattle.parts.specs.declared.frame.Frame.the-variants.{Token, Transmit, Information}
 use Rattle.parts.specs.declared.frame.Dispatch.{Dispatch}
 use Rattle.parts.specs.declared.frame.Dispatch.the-variants.{Nothing, Sent}
-use Rattle.station.specs.declared.rules.strike.Loss.{Loss}
 use Rattle.station.specs.declared.station.Station.{Station}
 use Rattle.parts.proofs.Laws.Choose.{pick-true, pick-false}
 use Rattle.parts.proofs.Laws.Messages.{only-length}
@@ -54,9 +53,9 @@ module _ (l : Messages) (g : Message → Bool) where
       → awaitedGood st n own l d ≡ true → awaitedGood st n own (pack (only g (all l))) d ≡ true
   unfolding awaitedGood carried
   awaited-kept st n own Nothing w e = e
-  awaited-kept st n own (Sent (Token number priority master failing named) to) w e = e
-  awaited-kept st n own (Sent (Transmit number priority master named) to) w e = e
-  awaited-kept st n own (Sent (Information number priority channel length′ place) to) w e =
+  awaited-kept st n own (Sent (Token t) to) w e = e
+  awaited-kept st n own (Sent (Transmit t) to) w e = e
+  awaited-kept st n own (Sent (Information i) to) w e =
       let t = held _ e in
       hold _ (
         t .0,
@@ -66,7 +65,7 @@ module _ (l : Messages) (g : Message → Bool) where
             t .1 .1 .0,
             (
               t .1 .1 .1 .0,
-              (ap (λ (b : Best). sameMessage b to priority channel length′) (best-kept place (λ m q. w m (eq-eqb place (m .place) (sym q)))) ∙ t .1 .1 .1 .1 .0, tt),
+              (ap (λ (b : Best). sameMessage b to i) (best-kept (i .place) (λ m q. w m (eq-eqb (i .place) (m .place) (sym q)))) ∙ t .1 .1 .1 .1 .0, tt),
             ),
           ),
         ),

@@ -11,7 +11,7 @@ use Rattle.parts.specs.Choose.{pick}
 use Rattle.parts.specs.Live.{liveAt, without}
 use Rattle.parts.specs.Messages.{all, none, blank, pack, pushed, splitBy}
 use Rattle.station.specs.Stations.{withSends, addUpTo}
-use Rattle.station.specs.Strike.{strike, nothingGone, giveUpTo, giveUpAt, giveUpFlight, told}
+use Rattle.station.specs.Strike.{Loss, strike, nothingGone, giveUpTo, giveUpAt, giveUpFlight, told}
 use Rattle.plain_rules.specs.Heard.{newly}
 use Rattle.parts.specs.declared.live.Live.{Live}
 use Rattle.parts.specs.declared.list.Message.{Message}
@@ -19,7 +19,6 @@ use Rattle.parts.specs.declared.list.Messages.{Messages}
 use Rattle.parts.specs.declared.frame.Whom.{Whom}
 use Rattle.parts.specs.declared.frame.Whom.the-variants.{Nobody, Member}
 use Rattle.station.specs.declared.station.Station.{Station}
-use Rattle.station.specs.declared.rules.strike.Loss.{Loss}
 use Rattle.parts.proofs.Laws.Choose.{pick-true, pick-false}
 
 -- what holds of both choices holds of the one picked
@@ -149,17 +148,17 @@ newlyOf l (Member p) = newly l p
 pub record Tells (s t : Station) (w : Whom) (gone : Messages) (struck : Whom) : Type 0 where
   pub live-left : t .live ≡ left (s .live) struck
   pub told-is : w ≡ newlyOf (s .live) struck
-  pub counted-up : t .givenup ≡ addUpTo (s .givenup) (gone .len)
+  pub counted-up : t .counts .givenup ≡ addUpTo (s .counts .givenup) (gone .len)
   pub listed : Roomy gone
 
 -- two stations with the same live set and the same count
 pub record Same (s t : Station) : Type 0 where
   pub live-same : t .live ≡ s .live
-  pub count-same : t .givenup ≡ s .givenup
+  pub count-same : t .counts .givenup ≡ s .counts .givenup
 
 pub tells-none : (s t : Station) → Same s t → Tells s t Nobody none Nobody
 tells-none s t e =
-    record { live-left = e .live-same; told-is = refl; counted-up = e .count-same ∙ sym (none-more (s .givenup)); listed = roomy-none }
+    record { live-left = e .live-same; told-is = refl; counted-up = e .count-same ∙ sym (none-more (s .counts .givenup)); listed = roomy-none }
 
 -- steps before and after that touch neither the live set nor the count
 pub tells-through : (s t u v : Station) (w : Whom) (gone : Messages) (struck : Whom) → Same s t → Tells t u w gone struck → Same u v → Tells s v w gone struck
@@ -174,7 +173,7 @@ tells-through s t u v w gone struck before k after =
 -- a station that has lost `p`, with nothing counted yet
 pub record Lost (s : Station) (p : ℕ) (l : Loss) : Type 0 where
   pub live-lost : l .station .live ≡ without (s .live) p
-  pub count-kept : l .station .givenup ≡ s .givenup
+  pub count-kept : l .station .counts .givenup ≡ s .counts .givenup
   pub gone-listed : Roomy (l .gone)
 
 pub lost-itself : (s : Station) (p : ℕ) → Lost s p (nothingGone (strike s p))
@@ -185,7 +184,7 @@ lost-to s p =
     let e = gives-up-to (strike s p) p in
     record {
       live-lost = ap (λ (t : Station). t .live) e;
-      count-kept = ap (λ (t : Station). t .givenup) e;
+      count-kept = ap (λ (t : Station). t .counts .givenup) e;
       gone-listed = roomy-to (strike s p) p;
     }
 
@@ -194,7 +193,7 @@ lost-flight s p l h =
     let e = gives-up-flight l in
     record {
       live-lost = ap (λ (t : Station). t .live) e ∙ h .live-lost;
-      count-kept = ap (λ (t : Station). t .givenup) e ∙ h .count-kept;
+      count-kept = ap (λ (t : Station). t .counts .givenup) e ∙ h .count-kept;
       gone-listed = roomy-flight l (h .gone-listed);
     }
 

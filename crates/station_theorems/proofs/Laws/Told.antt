@@ -7,7 +7,7 @@ use borrow.Author.Tests.{eqb-true, ltb-false}
 use Rattle.parts.specs.Moves.{moveOf, runs}
 use Rattle.parts.specs.Frames.{numberOf, failingOf}
 use Rattle.station.specs.Stations.{stateOf, awaitedOf, quiet, answered, moved, unless}
-use Rattle.station.specs.Strike.{strike, nothingGone, giveUpTo, stopped}
+use Rattle.station.specs.Strike.{Loss, Struck, strike, nothingGone, giveUpTo, stopped}
 use Rattle.plain_rules.specs.Heard.{newly}
 use Rattle.station.specs.Heard.{landed, acknowledge, strikeOther, strikeHeard, failed, receive, stored, handle, respond, heard, checks, frameRule}
 use Rattle.station.specs.Timer.{again, unanswered, afterStrike, silence, onTimer, timerRule}
@@ -24,8 +24,6 @@ use Rattle.parts.specs.declared.frame.Dispatch.{Dispatch}
 use Rattle.parts.specs.declared.frame.Dispatch.the-variants.{Nothing, Sent}
 use Rattle.station.specs.declared.station.Station.{Station}
 use Rattle.station.specs.declared.station.Answer.{Answer}
-use Rattle.station.specs.declared.rules.strike.Loss.{Loss}
-use Rattle.station.specs.declared.rules.strike.Struck.{Struck}
 use Rattle.station.specs.declared.rules.heard.Stored.{Stored}
 use Rattle.station_theorems.proofs.Laws.Telling.{pick-either, Tells, Same, Lost, lost-itself, lost-to, tells-none, tells-through, tells-told, tells-flight}
 
@@ -61,9 +59,9 @@ receive-same s m =
 
 stored-same : (s : Station) (from : ℕ) (f : Frame) → Same s (stored s from f .station)
 unfolding stored
-stored-same s from (Token number priority master failing named) = same s
-stored-same s from (Transmit number priority master named) = same s
-stored-same s from (Information number priority channel length place) = receive-same s _
+stored-same s from (Token t) = same s
+stored-same s from (Transmit t) = same s
+stored-same s from (Information i) = receive-same s _
 
 -- ---- a failing station
 

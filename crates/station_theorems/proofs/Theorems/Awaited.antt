@@ -18,6 +18,9 @@ use Rattle.parts.specs.declared.list.Best.{Best}
 use Rattle.parts.specs.declared.list.Which.the-variants.{HasPlace}
 use Rattle.parts.specs.declared.frame.Whom.{Whom}
 use Rattle.parts.specs.declared.frame.Whom.the-variants.{Nobody, Member}
+use Rattle.parts.specs.declared.frame.TokenFrame.{TokenFrame}
+use Rattle.parts.specs.declared.frame.TransmitFrame.{TransmitFrame}
+use Rattle.parts.specs.declared.frame.InformationFrame.{InformationFrame}
 use Rattle.parts.specs.declared.frame.Frame.{Frame}
 use Rattle.parts.specs.declared.frame.Frame.the-variants.{Token, Transmit, Information}
 use Rattle.parts.specs.declared.frame.Dispatch.{Dispatch}
@@ -31,25 +34,25 @@ use Rattle.station_theorems.proofs.Theorems.Head.{best-is-first}
 
 -- ---- fit to write: members, and fields in range
 
-pub record FitToken (n master : ℕ) (failing : Whom) (named : ℕ) : Type 0 where
-  pub master-member : master < n
-  pub named-member : named < n
-  pub failing-member : (p : ℕ) → failing ≡ Member p → p < n
+pub record FitToken (n : ℕ) (t : TokenFrame) : Type 0 where
+  pub master-member : t .master < n
+  pub named-member : t .named < n
+  pub failing-member : (p : ℕ) → t .failing ≡ Member p → p < n
 
-pub record FitTransmit (n priority master named : ℕ) : Type 0 where
-  pub some-priority : priority ≡ 0 → ⊥
-  pub master-member : master < n
-  pub named-member : named < n
+pub record FitTransmit (n : ℕ) (t : TransmitFrame) : Type 0 where
+  pub some-priority : t .priority ≡ 0 → ⊥
+  pub master-member : t .master < n
+  pub named-member : t .named < n
 
-pub record FitInformation (priority channel length : ℕ) : Type 0 where
-  pub some-priority : priority ≡ 0 → ⊥
-  pub channel-fits : channel ≤ 7
-  pub length-fits : length ≤ 1492
+pub record FitInformation (i : InformationFrame) : Type 0 where
+  pub some-priority : i .priority ≡ 0 → ⊥
+  pub channel-fits : i .channel ≤ 7
+  pub length-fits : i .length ≤ 1492
 
 abbrev pub Fit : ℕ → Frame → Type 0
-Fit n (Token number priority master failing named) = FitToken n master failing named
-Fit n (Transmit number priority master named) = FitTransmit n priority master named
-Fit n (Information number priority channel length place) = FitInformation priority channel length
+Fit n (Token t) = FitToken n t
+Fit n (Transmit t) = FitTransmit n t
+Fit n (Information i) = FitInformation i
 
 failing-fits : (n : ℕ) (w : Whom) → memberOrNobody n w ≡ true → (p : ℕ) → w ≡ Member p → p < n
 failing-fits n Nobody e p q = absurd (let z : _≡_ {A = ℕ} 0 1 = cc in omega arith)
@@ -60,52 +63,52 @@ fits-failing n Nobody k = refl
 fits-failing n (Member r) k = lt-ltb r n (k r refl)
 
 pub fit-is : (n : ℕ) (f : Frame) → fit n f ≡ true → Fit n f
-fit-is n (Token number priority master failing named) e =
+fit-is n (Token t) e =
+    let m = passes e in
+    let u = passes (m .1) in
+    record { master-member = leb-false n (t .master) (m .0); named-member = leb-false n (t .named) (u .0); failing-member = failing-fits n (t .failing) (u .1) }
+fit-is n (Transmit t) e =
+    let p = passes e in
+    let u = passes (p .1) in
+    record { some-priority = eqb-false _ _ (p .0); master-member = leb-false n (t .master) (u .0); named-member = ltb-true (t .named) n (u .1) }
+fit-is n (Information i) e =
     let t = passes e in
     let u = passes (t .1) in
-    record { master-member = leb-false n master (t .0); named-member = leb-false n named (u .0); failing-member = failing-fits n failing (u .1) }
-fit-is n (Transmit number priority master named) e =
-    let t = passes e in
-    let u = passes (t .1) in
-    record { some-priority = eqb-false _ _ (t .0); master-member = leb-false n master (u .0); named-member = ltb-true named n (u .1) }
-fit-is n (Information number priority channel length place) e =
-    let t = passes e in
-    let u = passes (t .1) in
-    record { some-priority = eqb-false _ _ (t .0); channel-fits = ltb-false 7 channel (u .0); length-fits = leb-true length 1492 (u .1) }
+    record { some-priority = eqb-false _ _ (t .0); channel-fits = ltb-false 7 (i .channel) (u .0); length-fits = leb-true (i .length) 1492 (u .1) }
 
 pub is-fit : (n : ℕ) (f : Frame) → Fit n f → fit n f ≡ true
-is-fit n (Token number priority master failing named) k =
-    pass (lt-leb n master (k .master-member)) (pass (lt-leb n named (k .named-member)) (fits-failing n failing (k .failing-member)))
-is-fit n (Transmit number priority master named) k =
-    pass (ne-eqb priority 0 (k .some-priority)) (pass (lt-leb n master (k .master-member)) (lt-ltb named n (k .named-member)))
-is-fit n (Information number priority channel length place) k =
-    pass (ne-eqb priority 0 (k .some-priority)) (pass (le-ltb 7 channel (k .channel-fits)) (le-leb length 1492 (k .length-fits)))
+is-fit n (Token t) k =
+    pass (lt-leb n (t .master) (k .master-member)) (pass (lt-leb n (t .named) (k .named-member)) (fits-failing n (t .failing) (k .failing-member)))
+is-fit n (Transmit t) k =
+    pass (ne-eqb (t .priority) 0 (k .some-priority)) (pass (lt-leb n (t .master) (k .master-member)) (lt-ltb (t .named) n (k .named-member)))
+is-fit n (Information i) k =
+    pass (ne-eqb (i .priority) 0 (k .some-priority)) (pass (le-ltb 7 (i .channel) (k .channel-fits)) (le-leb (i .length) 1492 (k .length-fits)))
 
 -- ---- the message of an information frame is in the send list
 
-pub record Carries (l : Messages) (to priority channel length place : ℕ) : Type 0 where
+pub record Carries (l : Messages) (to : ℕ) (i : InformationFrame) : Type 0 where
   pub message : Message
   pub there : List·Memᴰ message (all l)
-  pub same-place : message .place ≡ place
+  pub same-place : message .place ≡ i .place
   pub same-other : message .other ≡ to
-  pub same-priority : message .priority ≡ priority
-  pub same-channel : message .channel ≡ channel
-  pub same-length : message .length ≡ length
+  pub same-priority : message .priority ≡ i .priority
+  pub same-channel : message .channel ≡ i .channel
+  pub same-length : message .length ≡ i .length
 
 abbrev pub Carrying : Messages → Frame → ℕ → Type 0
-Carrying l (Token number priority master failing named) to = Unit {0}
-Carrying l (Transmit number priority master named) to = Unit {0}
-Carrying l (Information number priority channel length place) to = Carries l to priority channel length place
+Carrying l (Token t) to = Unit {0}
+Carrying l (Transmit t) to = Unit {0}
+Carrying l (Information i) to = Carries l to i
 
 carries-is : (l : Messages) (f : Frame) (to : ℕ) → carried l f to ≡ true → Carrying l f to
 unfolding carried sameMessage fits
-carries-is l (Token number priority master failing named) to e = tt
-carries-is l (Transmit number priority master named) to e = tt
-carries-is l (Information number priority channel length place) to e =
+carries-is l (Token t) to e = tt
+carries-is l (Transmit t) to e = tt
+carries-is l (Information i) to e =
     let t = held _ e in
-    let f = best-is-first (HasPlace place) l .first (t .0) in
+    let f = best-is-first (HasPlace (i .place)) l .first (t .0) in
     record {
-      message = best (HasPlace place) l .message;
+      message = best (HasPlace (i .place)) l .message;
       there = standing (f .before) (f .behind) _ (all l) (f .stands);
       same-place = eqb-true _ _ (f .fitting);
       same-other = eqb-true _ _ (t .1 .0);
@@ -114,20 +117,20 @@ carries-is l (Information number priority channel length place) to e =
       same-length = eqb-true _ _ (t .1 .1 .1 .1 .0);
     }
 
-same-as : (b : Best) (m : Message) (to priority channel length : ℕ) → b ≡ theBest m → m .other ≡ to → m .priority ≡ priority → m .channel ≡ channel
-    → m .length ≡ length → sameMessage b to priority channel length ≡ true
+same-as : (b : Best) (m : Message) (to : ℕ) (i : InformationFrame) → b ≡ theBest m → m .other ≡ to → m .priority ≡ i .priority → m .channel ≡ i .channel
+    → m .length ≡ i .length → sameMessage b to i ≡ true
 unfolding sameMessage
-same-as b m to priority channel length e o p c l =
-    ap (λ (x : Best). sameMessage x to priority channel length) e
-    ∙ hold _ (refl, (eq-eqb (m .other) to o, (eq-eqb (m .priority) priority p, (eq-eqb (m .channel) channel c, (eq-eqb (m .length) length l, tt)))))
+same-as b m to i e o p c l =
+    ap (λ (x : Best). sameMessage x to i) e
+    ∙ hold _ (refl, (eq-eqb (m .other) to o, (eq-eqb (m .priority) (i .priority) p, (eq-eqb (m .channel) (i .channel) c, (eq-eqb (m .length) (i .length) l, tt)))))
 
 is-carried : (l : Messages) → apart [] (all l) ≡ true → (f : Frame) (to : ℕ) → Carrying l f to → carried l f to ≡ true
 unfolding carried best
-is-carried l a (Token number priority master failing named) to k = refl
-is-carried l a (Transmit number priority master named) to k = refl
-is-carried l a (Information number priority channel length place) to k =
+is-carried l a (Token t) to k = refl
+is-carried l a (Transmit t) to k = refl
+is-carried l a (Information i) to k =
     let w = stood (k .there) in
-    same-as _ (k .message) to priority channel length
+    same-as _ (k .message) to i
     (ap (λ (p : ℕ). bestOf (HasPlace p) (all l) noBest) (sym (k .same-place)) ∙ best-found (all l) (w .0) (w .1) (k .message) a (w .2))
     (k .same-other) (k .same-priority) (k .same-channel) (k .same-length)
 

@@ -11,13 +11,13 @@ use Rattle.parts.specs.Choose.{pick}
 use Rattle.parts.specs.Moves.{moveOf, runs}
 use Rattle.parts.specs.Live.{liveAt}
 use Rattle.parts.specs.Frames.{numberOf, failingOf, fit}
+use Rattle.station.specs.Strike.{Struck}
 use Rattle.station.specs.Stations.{stateOf}
 use Rattle.station.specs.Heard.{acknowledge, failed, nothingMore, stored, handle, silent, respond, heard, frameRule}
 use Rattle.plain_rules.specs.Refusals.{heardRefusal}
 use Rattle.parts.specs.declared.moves.State.the-variants.{Idle}
 use Rattle.parts.specs.declared.moves.Event.the-variants.{Heard}
 use Rattle.parts.specs.declared.frame.Frame.{Frame}
-use Rattle.station.specs.declared.rules.strike.Struck.{Struck}
 use Rattle.station.specs.declared.station.Station.{Station}
 use Rattle.station_theorems.proofs.Laws.Sound.{Sound, WholeStation, whole-sound, whole-station, moved-sound, unless-sound}
 use Rattle.station_theorems.proofs.Laws.States.{idle-is}

@@ -22,16 +22,16 @@ messagesTold a = length (all (a .gone))
 
 -- a station's count is of its field's type, 32 bits, as every station that the code holds
 pub record CountsGivenUp (s : Station) (a : Answer) : Type 0 where
-  pub counts-exactly : s .givenup + messagesTold a ≤ 4294967295 → a .station .givenup ≡ s .givenup + messagesTold a
-  pub counts-up-to : s .givenup ≤ 4294967295 → 4294967295 ≤ s .givenup + messagesTold a → a .station .givenup ≡ 4294967295
+  pub counts-exactly : s .counts .givenup + messagesTold a ≤ 4294967295 → a .station .counts .givenup ≡ s .counts .givenup + messagesTold a
+  pub counts-up-to : s .counts .givenup ≤ 4294967295 → 4294967295 ≤ s .counts .givenup + messagesTold a → a .station .counts .givenup ≡ 4294967295
 
 counts : (s : Station) (a : Answer) (w : Whom) → AnswerFrom s w a → CountsGivenUp s a
 counts s a w t =
-    let told : a .station .givenup ≡ addUpTo (s .givenup) (messagesTold a) =
-    t .counted-up ∙ ap (addUpTo (s .givenup)) (sym (roomy-length (a .gone) (t .listed))) in
+    let told : a .station .counts .givenup ≡ addUpTo (s .counts .givenup) (messagesTold a) =
+    t .counted-up ∙ ap (addUpTo (s .counts .givenup)) (sym (roomy-length (a .gone) (t .listed))) in
     record {
-      counts-exactly = λ h. told ∙ counts-all (s .givenup) (messagesTold a) h;
-      counts-up-to = λ b h. told ∙ counts-stop (s .givenup) (messagesTold a) b h;
+      counts-exactly = λ h. told ∙ counts-all (s .counts .givenup) (messagesTold a) h;
+      counts-up-to = λ b h. told ∙ counts-stop (s .counts .givenup) (messagesTold a) b h;
     }
 
 pub frame-counts-given-up : (s : Station) (f : Frame) (from to : ℕ) → CountsGivenUp s (frameRule s f from to)

@@ -23,6 +23,7 @@ use Rattle.wholeness.specs.Whole.{apart, whole}
 use Rattle.parts.specs.declared.moves.Event.{Event}
 use Rattle.parts.specs.declared.moves.Event.the-variants.{Start, Heard, Queue, Take}
 use Rattle.parts.specs.declared.list.Message.{Message}
+use Rattle.parts.specs.declared.request.Request.{Request}
 use Rattle.parts.specs.declared.frame.Whom.{Whom}
 use Rattle.parts.specs.declared.frame.Whom.the-variants.{Nobody}
 use Rattle.parts.specs.declared.frame.Frame.{Frame}
@@ -157,18 +158,18 @@ pub record Joins (s : Station) (m : Message) (a : Answer) : Type 0 where
   pub joined : all (a .station .sends) ≡ all (s .sends) ++ m ∷ []
   pub none-told : all (a .gone) ≡ []
 
-module _ (s : Station) (fit : SendsFit s) (to priority channel length′ : ℕ) where
-  accepted-joins : queueNumber s to priority channel length′ ≡ 0 → Joins s (newMessage s to priority channel length′) (accepted s to priority channel length′)
+module _ (s : Station) (fit : SendsFit s) (q : Request) where
+  accepted-joins : queueNumber s q ≡ 0 → Joins s (newMessage s q) (accepted s q)
   unfolding accepted
   accepted-joins z =
-      let q = queue-good (s .n) (s .own) (liveAt (s .live) to) (s .sends .len) to priority channel length′ z in
-      record { joined = push-all (s .sends) (newMessage s to priority channel length′) (fit .array) (q .room); none-told = refl }
+      let g = queue-good (s .n) (s .own) (liveAt (s .live) (q .to)) (s .sends .len) q z in
+      record { joined = push-all (s .sends) (newMessage s q) (fit .array) (g .room); none-told = refl }
 
-  pub queue-joins : moveOf (stateOf s) Queue ≡ runs → queueNumber s to priority channel length′ ≡ 0
-      → Joins s (newMessage s to priority channel length′) (queueRule s to priority channel length′)
+  pub queue-joins : moveOf (stateOf s) Queue ≡ runs → queueNumber s q ≡ 0
+      → Joins s (newMessage s q) (queueRule s q)
   unfolding queueRule
   queue-joins r z =
-      rw (moved-runs s Queue _ refl r, unless-passes s (queueNumber s to priority channel length′) (accepted s to priority channel length′) refl z)
+      rw (moved-runs s Queue _ refl r, unless-passes s (queueNumber s q) (accepted s q) refl z)
       (accepted-joins z)
 
   joins-only : (m : Message) (a : Answer) → Joins s m a → LeaveOnly s a ⊥
@@ -180,7 +181,7 @@ module _ (s : Station) (fit : SendsFit s) (to priority channel length′ : ℕ) 
         told-place-free = λ x h. absurd (List·Memᴰ·not-nil (subst (List·Memᴰ x) (k .none-told) h));
       }
 
-  pub queue-leaves-only : LeaveOnly s (queueRule s to priority channel length′) ⊥
+  pub queue-leaves-only : LeaveOnly s (queueRule s q) ⊥
   unfolding queueRule
   queue-leaves-only =
       let stops : (n : ℕ) → LeaveOnly s (answered s n) ⊥ = λ n. kept s fit ⊥ (answered s n) refl refl in

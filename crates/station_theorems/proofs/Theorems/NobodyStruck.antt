@@ -10,6 +10,7 @@ use Rattle.station.specs.Start.{started, startRule}
 use Rattle.station.specs.Queue.{accepted, queueRule}
 use Rattle.station.specs.Take.{taking, takeRule}
 use Rattle.parts.specs.declared.list.Message.{Message}
+use Rattle.parts.specs.declared.request.Request.{Request}
 use Rattle.parts.specs.declared.moves.Event.{Event}
 use Rattle.parts.specs.declared.frame.Whom.the-variants.{Nobody}
 use Rattle.station.specs.declared.station.Station.{Station}
@@ -20,7 +21,7 @@ pub record StrikesNobody (s : Station) (a : Answer) : Type 0 where
   pub nobody-struck : a .struck ≡ Nobody
   pub live-kept : a .station .live ≡ s .live
   pub none-given-up : a .gone ≡ none
-  pub count-kept : a .station .givenup ≡ s .givenup
+  pub count-kept : a .station .counts .givenup ≡ s .counts .givenup
 
 number-alone : (s : Station) (number : ℕ) → StrikesNobody s (answered s number)
 number-alone s number = record { nobody-struck = refl; live-kept = refl; none-given-up = refl; count-kept = refl }
@@ -46,9 +47,9 @@ started-nobody s =
     (record { nobody-struck = refl; live-kept = refl; none-given-up = refl; count-kept = refl })
     (record { nobody-struck = refl; live-kept = refl; none-given-up = refl; count-kept = refl })
 
-accepted-nobody : (s : Station) (to priority channel length : ℕ) → StrikesNobody s (accepted s to priority channel length)
+accepted-nobody : (s : Station) (q : Request) → StrikesNobody s (accepted s q)
 unfolding accepted
-accepted-nobody s to priority channel length = record { nobody-struck = refl; live-kept = refl; none-given-up = refl; count-kept = refl }
+accepted-nobody s q = record { nobody-struck = refl; live-kept = refl; none-given-up = refl; count-kept = refl }
 
 taking-nobody : (s : Station) (m : Message) → StrikesNobody s (taking s m)
 unfolding taking
@@ -60,9 +61,9 @@ pub start-strikes-nobody : (s : Station) → StrikesNobody s (startRule s)
 unfolding startRule
 start-strikes-nobody s = nobody-moved s _ (started-nobody s)
 
-pub queue-strikes-nobody : (s : Station) (to priority channel length : ℕ) → StrikesNobody s (queueRule s to priority channel length)
+pub queue-strikes-nobody : (s : Station) (q : Request) → StrikesNobody s (queueRule s q)
 unfolding queueRule
-queue-strikes-nobody s to priority channel length = nobody-moved s _ (nobody-unless s _ (accepted-nobody s to priority channel length))
+queue-strikes-nobody s q = nobody-moved s _ (nobody-unless s _ (accepted-nobody s q))
 
 pub take-strikes-nobody : (s : Station) (channel room : ℕ) → StrikesNobody s (takeRule s channel room)
 unfolding takeRule

@@ -19,6 +19,7 @@ use Rattle.parts.specs.declared.list.Messages.{Messages}
 use Rattle.parts.specs.declared.list.Flight.{Flight}
 use Rattle.parts.specs.declared.list.Best.{Best}
 use Rattle.parts.specs.declared.list.Which.the-variants.{HasPlace}
+use Rattle.parts.specs.declared.request.Request.{Request}
 use Rattle.parts.specs.declared.frame.Frame.{Frame}
 use Rattle.parts.specs.declared.frame.Frame.the-variants.{Token, Transmit, Information}
 use Rattle.parts.specs.declared.frame.Dispatch.{Dispatch}
@@ -50,12 +51,12 @@ waiters-pushed st l f ms m h = go (isExcluded st)
 module _ (l : Messages) (m : Message) (full : length (l .items) ≡ 16) (room : l .len < 16) (free : hasPlace (all l) (m .place) ≡ false) where
   carried-pushed : (f : Frame) (to : ℕ) → carried l f to ≡ true → carried (pushed l m) f to ≡ true
   unfolding carried best sameMessage
-  carried-pushed (Token number priority master failing named) to e = refl
-  carried-pushed (Transmit number priority master named) to e = refl
-  carried-pushed (Information number priority channel length place) to e = ap (λ (b : Best). sameMessage b to priority channel length) same ∙ e
+  carried-pushed (Token t) to e = refl
+  carried-pushed (Transmit t) to e = refl
+  carried-pushed (Information i) to e = ap (λ (b : Best). sameMessage b to i) same ∙ e
     where
-      same : best (HasPlace place) (pushed l m) ≡ best (HasPlace place) l
-      same = ap (λ (ms : List Message). bestOf (HasPlace place) ms noBest) (push-all l m full room) ∙ best-pushed place (all l) m (held _ e .0) free
+      same : best (HasPlace (i .place)) (pushed l m) ≡ best (HasPlace (i .place)) l
+      same = ap (λ (ms : List Message). bestOf (HasPlace (i .place)) ms noBest) (push-all l m full room) ∙ best-pushed (i .place) (all l) m (held _ e .0) free
 
   awaited-pushed : (st : State) (n own : ℕ) (d : Dispatch) → awaitedGood st n own l d ≡ true → awaitedGood st n own (pushed l m) d ≡ true
   unfolding awaitedGood
@@ -64,49 +65,49 @@ module _ (l : Messages) (m : Message) (full : length (l .items) ≡ 16) (room : 
       let t = held _ e in
       hold _ (t .0, (t .1 .0, (t .1 .1 .0, (t .1 .1 .1 .0, (carried-pushed f to (t .1 .1 .1 .1 .0), tt)))))
 
-module _ (s : Station) (to priority channel length′ : ℕ) where
-  accepted-sound : Sound s → queueNumber s to priority channel length′ ≡ 0 → Sound (accepted s to priority channel length′ .station)
+module _ (s : Station) (q : Request) where
+  accepted-sound : Sound s → queueNumber s q ≡ 0 → Sound (accepted s q .station)
   unfolding accepted messageGood
   accepted-sound k z =
-      let q = queue-good (s .n) (s .own) (liveAt (s .live) to) (s .sends .len) to priority channel length′ z in
-      let m : Message = newMessage s to priority channel length′ in
-      let few : length (all (s .sends)) < 16 = omega (arith, length-take (s .sends .len) (s .sends .items), q .room) in
+      let g = queue-good (s .n) (s .own) (liveAt (s .live) (q .to)) (s .sends .len) q z in
+      let m : Message = newMessage s q in
+      let few : length (all (s .sends)) < 16 = omega (arith, length-take (s .sends .len) (s .sends .items), g .room) in
       let low : lowestFree (all (s .sends)) < 16 = lowest-free-room (all (s .sends)) few in
       let own-place = lowest-free-free (all (s .sends)) low in
       let good : messageGood (s .n) (s .own) m ≡ true =
       hold _ (
         lt-ltb _ 16 low,
         (
-          ap not (ne-eqb priority 0 (q .some-priority)),
+          ap not (ne-eqb (q .priority) 0 (g .some-priority)),
           (
-            le-leb channel 7 (q .channel-fits),
+            le-leb (q .channel) 7 (g .channel-fits),
             (
-              le-leb length′ 1492 (q .length-fits),
+              le-leb (q .length) 1492 (g .length-fits),
               (
-                lt-ltb to (s .n) (q .member),
-                (ap not (ne-eqb to (s .own) (q .another)), tt),
+                lt-ltb (q .to) (s .n) (g .member),
+                (ap not (ne-eqb (q .to) (s .own) (g .another)), tt),
               ),
             ),
           ),
         ),
       ) in
-      let all′ = push-all (s .sends) m (k .shaped .sends) (q .room) in
+      let all′ = push-all (s .sends) m (k .shaped .sends) (g .room) in
       record {
         shaped =
-            record { seats = k .shaped .seats; sends = push-length (s .sends) m (k .shaped .sends) (q .room); receives = k .shaped .receives };
+            record { seats = k .shaped .seats; sends = push-length (s .sends) m (k .shaped .sends) (g .room); receives = k .shaped .receives };
         ring = k .ring;
         seats = k .seats;
         company = k .company;
-        sends = list-pushed (s .sends) m (k .shaped .sends) (q .room) (s .n) (s .own) (k .sends) good own-place;
+        sends = list-pushed (s .sends) m (k .shaped .sends) (g .room) (s .n) (s .own) (k .sends) good own-place;
         receives = k .receives;
-        waiters = rw all′ (waiters-pushed (s .turn .state) (s .live) _ (all (s .sends)) m (q .lives) (k .waiters));
+        waiters = rw all′ (waiters-pushed (s .turn .state) (s .live) _ (all (s .sends)) m (g .lives) (k .waiters));
         retries = k .retries;
-        awaited = awaited-pushed (s .sends) m (k .shaped .sends) (q .room) own-place (s .turn .state) (s .n) (s .own) (s .turn .awaited) (k .awaited);
+        awaited = awaited-pushed (s .sends) m (k .shaped .sends) (g .room) own-place (s .turn .state) (s .n) (s .own) (s .turn .awaited) (k .awaited);
       }
 
-  pub queue-sound : Sound s → Sound (queueRule s to priority channel length′ .station)
+  pub queue-sound : Sound s → Sound (queueRule s q .station)
   unfolding queueRule
   queue-sound k = moved-sound s k _ _ (λ r. unless-sound s k _ _ (λ z. accepted-sound k z))
 
-  pub queue-keeps-whole : WholeStation s → WholeStation (queueRule s to priority channel length′ .station)
+  pub queue-keeps-whole : WholeStation s → WholeStation (queueRule s q .station)
   queue-keeps-whole w = whole-station _ (queue-sound (whole-sound s w))

@@ -11,6 +11,7 @@ use Rattle.station.specs.Timer.{timerRule}
 use Rattle.station.specs.Queue.{queueRule}
 use Rattle.station.specs.Take.{takeRule}
 use Rattle.parts.specs.declared.frame.Frame.{Frame}
+use Rattle.parts.specs.declared.request.Request.{Request}
 use Rattle.station.specs.declared.station.Station.{Station}
 use Rattle.station_theorems.proofs.Laws.Sound.{WholeStation}
 use Rattle.station_theorems.proofs.Theorems.MadeWhole.{made-whole}
@@ -25,7 +26,7 @@ pub record KeepsWhole (s : Station) : Type 0 where
   pub start : WholeStation (startRule s .station)
   pub frame : (f : Frame) (from to : ℕ) → fit (s .n) f ≡ true → WholeStation (frameRule s f from to .station)
   pub timer : WholeStation (timerRule s .station)
-  pub queue : (to priority channel length : ℕ) → WholeStation (queueRule s to priority channel length .station)
+  pub queue : (q : Request) → WholeStation (queueRule s q .station)
   pub take : (channel room : ℕ) → WholeStation (takeRule s channel room .station)
 
 pub calls-keep-whole : (s : Station) → WholeStation s → KeepsWhole s
@@ -34,7 +35,7 @@ calls-keep-whole s w =
       start = start-keeps-whole s w;
       frame = λ f from to e. frame-keeps-whole s f from to e w;
       timer = timer-keeps-whole s w;
-      queue = λ to priority channel length. queue-keeps-whole s to priority channel length w;
+      queue = λ q. queue-keeps-whole s q w;
       take = λ channel room. take-keeps-whole s channel room w;
     }
 
@@ -44,7 +45,7 @@ pub data Reached : Station → Type 0 where
   by-start : (s : Station) → Reached s → (t : Station) → t ≡ startRule s .station → Reached t
   by-frame : (s : Station) → Reached s → (f : Frame) (from to : ℕ) → fit (s .n) f ≡ true → (t : Station) → t ≡ frameRule s f from to .station → Reached t
   by-timer : (s : Station) → Reached s → (t : Station) → t ≡ timerRule s .station → Reached t
-  by-queue : (s : Station) → Reached s → (to priority channel length : ℕ) (t : Station) → t ≡ queueRule s to priority channel length .station → Reached t
+  by-queue : (s : Station) → Reached s → (q : Request) (t : Station) → t ≡ queueRule s q .station → Reached t
   by-take : (s : Station) → Reached s → (channel room : ℕ) (t : Station) → t ≡ takeRule s channel room .station → Reached t
 
 pub reached-whole : {t : Station} → Reached t → WholeStation t
@@ -52,5 +53,5 @@ reached-whole (made-anew n limit own a b c d e t q) = subst WholeStation (sym q)
 reached-whole (by-start s r t q) = subst WholeStation (sym q) (start-keeps-whole s (reached-whole r))
 reached-whole (by-frame s r f from to h t q) = subst WholeStation (sym q) (frame-keeps-whole s f from to h (reached-whole r))
 reached-whole (by-timer s r t q) = subst WholeStation (sym q) (timer-keeps-whole s (reached-whole r))
-reached-whole (by-queue s r to priority channel length t q) = subst WholeStation (sym q) (queue-keeps-whole s to priority channel length (reached-whole r))
+reached-whole (by-queue s r q t e) = subst WholeStation (sym e) (queue-keeps-whole s q (reached-whole r))
 reached-whole (by-take s r channel room t q) = subst WholeStation (sym q) (take-keeps-whole s channel room (reached-whole r))

@@ -8,6 +8,7 @@ use lib.Dec.{eqb, ltb}
 use Rattle.parts.specs.Choose.{pick}
 use Rattle.parts.specs.Messages.{none}
 use Rattle.parts.specs.Frames.{numberOf}
+use Rattle.station.specs.Strike.{Struck}
 use Rattle.station.specs.Stations.{stateOf, awaitedOf, answered, moved, unless, alone}
 use Rattle.station.specs.Start.{started, startRule}
 use Rattle.station.specs.Heard.{nothingMore, handle, respond, heard, frameRule}
@@ -21,7 +22,7 @@ use Rattle.parts.specs.declared.frame.Whom.the-variants.{Nobody}
 use Rattle.parts.specs.declared.frame.Frame.{Frame}
 use Rattle.parts.specs.declared.frame.Dispatch.{Dispatch}
 use Rattle.parts.specs.declared.frame.Dispatch.the-variants.{Nothing, Sent}
-use Rattle.station.specs.declared.rules.strike.Struck.{Struck}
+use Rattle.parts.specs.declared.request.Request.{Request}
 use Rattle.station.specs.declared.station.Station.{Station}
 use Rattle.station.specs.declared.station.Payload.the-variants.{NoPayload}
 use Rattle.station.specs.declared.station.Answer.{Answer}
@@ -93,9 +94,9 @@ unfolding onTimer
 timer-done s Nothing = refl
 timer-done s (Sent frame to) = silence-done s to frame
 
-accept-done : (s : Station) (to priority channel length : ℕ) → accepted s to priority channel length .number ≡ 0
+accept-done : (s : Station) (q : Request) → accepted s q .number ≡ 0
 unfolding accepted
-accept-done s to priority channel length = refl
+accept-done s q = refl
 
 -- ---- the five calls
 
@@ -111,9 +112,9 @@ pub timer-refuses : (s : Station) → Refuses s (timerRule s)
 unfolding timerRule
 timer-refuses s = refuses-moved s _ (done (timer-done s (awaitedOf s)))
 
-pub queue-refuses : (s : Station) (to priority channel length : ℕ) → Refuses s (queueRule s to priority channel length)
+pub queue-refuses : (s : Station) (q : Request) → Refuses s (queueRule s q)
 unfolding queueRule
-queue-refuses s to priority channel length = refuses-moved s _ (refuses-unless s _ (done (accept-done s to priority channel length)))
+queue-refuses s q = refuses-moved s _ (refuses-unless s _ (done (accept-done s q)))
 
 pub take-refuses : (s : Station) (channel room : ℕ) → Refuses s (takeRule s channel room)
 unfolding takeRule taking

@@ -11,7 +11,7 @@ use Rattle.parts.specs.Live.{liveAt}
 use Rattle.parts.specs.Messages.{none}
 use Rattle.parts.specs.Frames.{numberOf, failingOf}
 use Rattle.station.specs.Stations.{stateOf, awaitedOf, alone}
-use Rattle.station.specs.Strike.{strike, giveUpTo, told}
+use Rattle.station.specs.Strike.{Struck, strike, giveUpTo, told}
 use Rattle.plain_rules.specs.Heard.{newly}
 use Rattle.station.specs.Heard.{acknowledged, acknowledge, strikeOther, strikeHeard, failed, isLast, nothingMore, respond, heard, checks, frameRule, silent}
 use Rattle.station.specs.Timer.{unanswered, afterStrike, timerRule}
@@ -23,7 +23,6 @@ use Rattle.parts.specs.declared.frame.Dispatch.the-variants.{Nothing, Sent}
 use Rattle.station.specs.declared.station.Station.{Station}
 use Rattle.station.specs.declared.station.Turn.{Turn}
 use Rattle.station.specs.declared.station.Answer.{Answer}
-use Rattle.station.specs.declared.rules.strike.Struck.{Struck}
 use Rattle.parts.proofs.Laws.Choose.{pick-true, pick-false}
 use Rattle.station.proofs.Laws.Heard.{frame-runs}
 use Rattle.station.proofs.Laws.Timer.{timer-again, timer-last}

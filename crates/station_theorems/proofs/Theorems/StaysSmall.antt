@@ -5,26 +5,26 @@ use mathlib.Core.List.{List, [], _∷_}
 use Prim.Native.Nat.{ℕ, _<_}
 use native.Mathlib.Omega.{arith}
 use lib.Dec.{leb, ltb, eqb}
-use borrow.Author.Tests.{ltb-false, eqb-true}
+use borrow.Author.Tests.{eqb-true}
 use Rattle.codec.specs.Order.{firstOf}
 use Rattle.parts.specs.Choose.{pick, every}
 use Rattle.parts.specs.Messages.{all, pushed}
 use Rattle.parts.specs.Live.{liveAt}
 use Rattle.parts.specs.Frames.{numberOf, next, failingOf, flight}
 use Rattle.station.specs.Stations.{awaitedOf, made, withSends, withLive, quiet, sending, head, answered, moved, unless, alone}
-use Rattle.plain_rules.specs.Round.{ownBid, forward, startRound}
+use Rattle.plain_rules.specs.Round.{bidOf, ownBid, forward, startRound}
 use Rattle.station.specs.Start.{started, startRule}
-use Rattle.station.specs.Strike.{strike, giveUpTo, giveUpAt, giveUpFlight, leave, messageAt, nothingGone, told, stopped}
+use Rattle.station.specs.Strike.{Loss, Struck, strike, giveUpTo, giveUpAt, giveUpFlight, leave, messageAt, nothingGone, told, stopped}
 use Rattle.plain_rules.specs.Heard.{newly}
 use Rattle.station.specs.Heard.{acknowledged, landed, acknowledge, strikeOther, strikeHeard, failed, nothingMore, heardMessage, receive, stored, handle, respond, heard, frameRule}
 use Rattle.station.specs.Timer.{unanswered, afterStrike, silence, onTimer, timerRule}
 use Rattle.plain_rules.specs.Resend.{tokenAgain, renamed, resend}
 use Rattle.station.specs.Queue.{queueNumber, newMessage, accepted, queueRule}
-use Rattle.plain_rules.specs.Refusals.{queueRefusal}
 use Rattle.station.specs.Take.{taking, takeRule}
 use Rattle.parts.specs.declared.list.Message.{Message}
 use Rattle.parts.specs.declared.list.Messages.{Messages}
 use Rattle.parts.specs.declared.list.Which.the-variants.{AnyWaiting}
+use Rattle.parts.specs.declared.request.Request.{Request}
 use Rattle.parts.specs.declared.frame.Whom.{Whom}
 use Rattle.parts.specs.declared.frame.Whom.the-variants.{Nobody, Member}
 use Rattle.parts.specs.declared.frame.Frame.{Frame}
@@ -34,8 +34,6 @@ use Rattle.parts.specs.declared.frame.Dispatch.the-variants.{Nothing, Sent}
 use Rattle.parts.specs.declared.moves.Event.{Event}
 use Rattle.parts.specs.declared.moves.State.{State}
 use Rattle.parts.specs.declared.moves.State.the-variants.{Idle, Alone, Excluded}
-use Rattle.station.specs.declared.rules.strike.Loss.{Loss}
-use Rattle.station.specs.declared.rules.strike.Struck.{Struck}
 use Rattle.station.specs.declared.rules.heard.Stored.{Stored}
 use Rattle.plain_rules.specs.declared.round.Sight.{Sight}
 use Rattle.plain_rules.specs.declared.round.Bid.{Bid}
@@ -44,6 +42,7 @@ use Rattle.station.specs.declared.station.Handled.the-variants.{Last}
 use Rattle.station.specs.declared.station.Station.{Station}
 use Rattle.station.specs.declared.station.Answer.{Answer}
 use Rattle.parts.proofs.Laws.Tests.{each-none}
+use Rattle.plain_rules.proofs.Laws.Queue.{queue-good}
 use Rattle.station_theorems.proofs.Laws.Small.{Small, SmallFrame, SmallDispatch, SmallHandled, SmallBest, SmallList, pick-keeps, pick-keeps-if, split-small, push-small, best-small, add-small, next-small, start-small, reply-small, own-small, send-small}
 
 module _ (n limit : ℕ) where
@@ -101,7 +100,7 @@ module _ (n limit : ℕ) where
         awaited = h .awaited;
         handled = h .handled;
         lost = h .lost;
-        givenup = add-small (l .station .givenup) (l .gone .len) (h .givenup);
+        givenup = add-small (l .station .counts .givenup) (l .gone .len) (h .givenup);
       }
 
   quiet-small : (s : Station) (st : State) → Small n limit s → Small n limit (quiet s st)
@@ -138,11 +137,11 @@ module _ (n limit : ℕ) where
 
   stored-small : (s : Station) (from : ℕ) (f : Frame) → Small n limit s → SmallFrame f → Small n limit (stored s from f .station)
   unfolding stored receive
-  stored-small s from (Token number priority master failing named) h q = h
-  stored-small s from (Transmit number priority master named) h q = h
-  stored-small s from (Information number priority channel length place) h q =
+  stored-small s from (Token t) h q = h
+  stored-small s from (Transmit t) h q = h
+  stored-small s from (Information i) h q =
       pick-keeps (λ (t : Stored). Small n limit (t .station)) (leb 16 (s .receives .len)) _ _
-      (record { n-is = h .n-is; limit-is = h .limit-is; sends = h .sends; receives = h .receives; awaited = h .awaited; handled = h .handled; lost = add-small (s .lost) 1 (h .lost); givenup = h .givenup })
+      (record { n-is = h .n-is; limit-is = h .limit-is; sends = h .sends; receives = h .receives; awaited = h .awaited; handled = h .handled; lost = add-small (s .counts .lost) 1 (h .lost); givenup = h .givenup })
       (record { n-is = h .n-is; limit-is = h .limit-is; sends = h .sends; receives = push-small (s .receives) _ (h .receives) (q .priority); awaited = h .awaited; handled = h .handled; lost = h .lost; givenup = h .givenup })
 
   respond-small : (k : Struck) (from to : ℕ) (f : Frame) → SmallStruck k → SmallFrame f → Small n limit (respond k from to f .station)
@@ -162,20 +161,20 @@ module _ (n limit : ℕ) where
 
   resend-small : (v : Sight) → SmallBest (v .head) → (to : ℕ) (f : Frame) → SmallFrame f → SmallDispatch (resend v to f)
   unfolding resend tokenAgain renamed
-  resend-small v h to (Token number priority master failing named) q = go (eqb master (v .own)) (not (liveAt (v .live) master))
+  resend-small v h to (Token t) q = go (eqb (t .master) (v .own)) (not (liveAt (v .live) (t .master)))
     where
-      bid : pick (eqb named to) (ownBid v) (record { priority = priority; named = named }) .priority < 256
-      bid = pick-keeps (λ (x : Bid). x .priority < 256) (eqb named to) _ _ (own-small v h (next number) (next-small number)) (q .priority)
+      bid : pick (eqb (t .named) to) (ownBid v) (bidOf t) .priority < 256
+      bid = pick-keeps (λ (x : Bid). x .priority < 256) (eqb (t .named) to) _ _ (own-small v h (next (t .number)) (next-small (t .number))) (q .priority)
 
       go : (a b : Bool)
           → SmallDispatch
-          (firstOf (forward v (next number) master (Member to) (pick (eqb named to) (ownBid v) (record { priority = priority; named = named })))
-          ((a, startRound v (next number) (Member to)) ∷ (b, startRound v (next number) (Member to)) ∷ []))
-      go true b = start-small v h (next number) (next-small number) _
-      go false true = start-small v h (next number) (next-small number) _
-      go false false = record { number = next-small number; priority = bid }
-  resend-small v h to (Transmit number priority master named) q = start-small v h (next number) (next-small number) _
-  resend-small v h to (Information number priority channel length place) q = start-small v h (next number) (next-small number) _
+          (firstOf (forward v (next (t .number)) t (Member to) (pick (eqb (t .named) to) (ownBid v) (bidOf t)))
+          ((a, startRound v (next (t .number)) (Member to)) ∷ (b, startRound v (next (t .number)) (Member to)) ∷ []))
+      go true b = start-small v h (next (t .number)) (next-small (t .number)) _
+      go false true = start-small v h (next (t .number)) (next-small (t .number)) _
+      go false false = record { number = next-small (t .number); priority = bid }
+  resend-small v h to (Transmit t) q = start-small v h (next (t .number)) (next-small (t .number)) _
+  resend-small v h to (Information i) q = start-small v h (next (i .number)) (next-small (i .number)) _
 
   unanswered-small : (s : Station) (to : ℕ) → Small n limit s → SmallStruck (unanswered s to)
   unfolding unanswered
@@ -211,25 +210,12 @@ module _ (n limit : ℕ) where
       (sending-small s _ _ h (h .handled) (start-small _ (head-small s h) 0 (omega arith) Nobody))
       (quiet-small s Idle h))
 
-  -- an accepted priority is at most 255
-  priority-low : (n own : ℕ) (live : Bool) (len to priority channel size : ℕ) → queueRefusal n own live len to priority channel size ≡ 0 → priority < 256
-  unfolding queueRefusal
-  priority-low n own live len to priority channel size e = go (eqb priority 0) (ltb 255 priority) refl e
-    where
-      rest : List (Bool × ℕ)
-      rest = (leb n to, 15) ∷ (eqb to own, 15) ∷ (not live, 16) ∷ (ltb 7 channel, 17) ∷ (ltb 1492 size, 18) ∷ (leb 16 len, 19) ∷ []
-
-      go : (a b : Bool) → ltb 255 priority ≡ b → firstOf 0 ((a, 14) ∷ (b, 14) ∷ rest) ≡ 0 → priority < 256
-      go true b t q = absurd (omega (arith, q))
-      go false true t q = absurd (omega (arith, q))
-      go false false t q = omega (arith, ltb-false 255 priority t)
-
-  pub queue-small : (s : Station) (to priority channel length : ℕ) → Small n limit s → Small n limit (queueRule s to priority channel length .station)
+  pub queue-small : (s : Station) (q : Request) → Small n limit s → Small n limit (queueRule s q .station)
   unfolding queueRule accepted
-  queue-small s to priority channel length h =
+  queue-small s q h =
       moved-small s _ _ h
       (unless-small s _ _ h
-      (λ z. sends-small s h _ (push-small (s .sends) _ (h .sends) (priority-low (s .n) (s .own) (liveAt (s .live) to) (s .sends .len) to priority channel length z))))
+      (λ z. sends-small s h _ (push-small (s .sends) _ (h .sends) (omega (arith, queue-good (s .n) (s .own) (liveAt (s .live) (q .to)) (s .sends .len) q z .priority-fits)))))
 
   pub take-small : (s : Station) (channel room : ℕ) → Small n limit s → Small n limit (takeRule s channel room .station)
   unfolding takeRule taking

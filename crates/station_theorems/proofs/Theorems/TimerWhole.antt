@@ -10,7 +10,7 @@ use Rattle.parts.specs.Moves.{moveOf, runs}
 use Rattle.parts.specs.Frames.{noFlight, flight, fit}
 use Rattle.station.specs.Stations.{stateOf, awaitedOf, alone, quiet, counted}
 use Rattle.station.specs.Round.{sight}
-use Rattle.station.specs.Strike.{strike, giveUpTo}
+use Rattle.station.specs.Strike.{Loss, Struck, strike, giveUpTo}
 use Rattle.station.specs.Timer.{again, leftAlone, goesOn, unanswered, afterStrike, silence, onTimer, timerRule}
 use Rattle.plain_rules.specs.Resend.{resend}
 use Rattle.wholeness.specs.Whole.{awaitedGood}
@@ -20,8 +20,6 @@ use Rattle.parts.specs.declared.moves.Event.the-variants.{Heard}
 use Rattle.parts.specs.declared.frame.Frame.{Frame}
 use Rattle.parts.specs.declared.frame.Dispatch.{Dispatch}
 use Rattle.parts.specs.declared.frame.Dispatch.the-variants.{Nothing, Sent}
-use Rattle.station.specs.declared.rules.strike.Loss.{Loss}
-use Rattle.station.specs.declared.rules.strike.Struck.{Struck}
 use Rattle.station.specs.declared.station.Station.{Station}
 use Rattle.station_theorems.proofs.Laws.States.{waits}
 use Rattle.parts.proofs.Laws.Tests.{held}

@@ -15,6 +15,7 @@ use Rattle.parts.specs.declared.moves.State.{State}
 use Rattle.parts.specs.declared.moves.State.the-variants.{Excluded}
 use Rattle.parts.specs.declared.live.Live.{Live}
 use Rattle.parts.specs.declared.list.Message.{Message}
+use Rattle.parts.specs.declared.frame.InformationFrame.{InformationFrame}
 use Rattle.parts.specs.declared.frame.Frame.the-variants.{Token, Transmit, Information}
 use Rattle.parts.specs.declared.frame.Dispatch.{Dispatch}
 use Rattle.parts.specs.declared.frame.Dispatch.the-variants.{Nothing, Sent}
@@ -31,12 +32,10 @@ use Rattle.station_theorems.proofs.Theorems.Awaited.{Awaited, awaited-i
 
 -- the awaited frame is the information frame of the message's place
 pub record InFlight (d : Dispatch) (m : Message) : Type 0 where
-  pub number : ℕ
-  pub priority : ℕ
-  pub channel : ℕ
-  pub length : ℕ
+  pub frame : InformationFrame
   pub to : ℕ
-  pub awaited : d ≡ Sent (Information number priority channel length (m .place)) to
+  pub its-place : frame .place ≡ m .place
+  pub awaited : d ≡ Sent (Information frame) to
 
 pub record Whole (s : Station) : Type 0 where
   pub good-ring : Ring (s .n) (s .limit) (s .own)
@@ -52,20 +51,13 @@ pub record Whole (s : Station) : Type 0 where
 
 flying : (d : Dispatch) (m : Message) → flies (flight d) m ≡ true → InFlight d m
 flying Nothing m e = absurd (false≢true e)
-flying (Sent (Token number priority master failing named) to) m e = absurd (false≢true e)
-flying (Sent (Transmit number priority master named) to) m e = absurd (false≢true e)
-flying (Sent (Information number priority channel length place) to) m e =
-    record {
-      number = number;
-      priority = priority;
-      channel = channel;
-      length = length;
-      to = to;
-      awaited = ap (λ (p : ℕ). Sent (Information number priority channel length p) to) (eqb-true place (m .place) e);
-    }
+flying (Sent (Token t) to) m e = absurd (false≢true e)
+flying (Sent (Transmit t) to) m e = absurd (false≢true e)
+flying (Sent (Information i) to) m e =
+    record { frame = i; to = to; its-place = eqb-true (i .place) (m .place) e; awaited = refl }
 
 flown : (d : Dispatch) (m : Message) → InFlight d m → flies (flight d) m ≡ true
-flown d m k = ap (λ (x : Dispatch). flies (flight x) m) (k .awaited) ∙ eq-eqb (m .place) (m .place) refl
+flown d m k = ap (λ (x : Dispatch). flies (flight x) m) (k .awaited) ∙ eq-eqb (k .frame .place) (m .place) (k .its-place)
 
 module _ (st : State) (l : Live) (d : Dispatch) (ms : List Message) where
   waiting-is : waitersGood st l (flight d) ms ≡ true → (st ≡ Excluded → ⊥) → (m : Message) → List·Memᴰ m ms → (InFlight d m → ⊥) → liveAt l (m .other) ≡ true

@@ -8,7 +8,9 @@ use Rattle.parts.specs.Frames.{flightIn, noFlight}
 use Rattle.parts.specs.Messages.{theBest}
 use Rattle.parts.specs.declared.list.Best.{Best}
 use Rattle.parts.specs.declared.list.Message.{Message}
-use Rattle.parts.specs.declared.frame.Whom.the-variants.{Nobody}
+use Rattle.parts.specs.declared.frame.TokenFrame.{TokenFrame}
+use Rattle.parts.specs.declared.frame.TransmitFrame.{TransmitFrame}
+use Rattle.parts.specs.declared.frame.InformationFrame.{InformationFrame}
 use Rattle.parts.specs.declared.frame.Frame.{Frame}
 use Rattle.parts.specs.declared.frame.Frame.the-variants.{Token, Transmit, Information}
 use Rattle.parts.specs.declared.frame.Dispatch.{Dispatch}
@@ -31,14 +33,14 @@ pub record Tops (n : ℕ) (heads : ℕ → Best) (s : ℕ) (m : Message) : Type 
 -- a message of the given priority is on top at the station s, and the frame on the wire is from `from`
 pub data Ahead (n s priority from : ℕ) : Frame → ℕ → ℕ → Type 0 where
   -- a token that names s for the message: it comes back to its master, which grants or sends
-  named : (number bid master name : ℕ) → name ≡ s → bid ≡ priority → Ahead n s priority from (Token number bid master Nobody name) (n - offset n master from) 0
+  named : (t : TokenFrame) → t .named ≡ s → t .priority ≡ priority → Ahead n s priority from (Token t) (n - offset n (t .master) from) 0
   -- a token that has yet to ask s
-  to-ask : (number bid master name : ℕ) → offset n master from < offset n master s → Ahead n s priority from (Token number bid master Nobody name) (n - offset n master from) 0
+  to-ask : (t : TokenFrame) → offset n (t .master) from < offset n (t .master) s → Ahead n s priority from (Token t) (n - offset n (t .master) from) 0
   -- a token that asked s before the message came: another message may go first, and then a round passes
-  passed-over : (number bid master name : ℕ) → Ahead n s priority from (Token number bid master Nobody name) (n - offset n master from + (n + 1)) 1
-  granted : (number bid master name : ℕ) → name ≡ s → Ahead n s priority from (Transmit number bid master name) 0 0
-  granted-another : (number bid master name : ℕ) → Ahead n s priority from (Transmit number bid master name) (n + 1) 1
-  another's : (number bid channel length place : ℕ) → Ahead n s priority from (Information number bid channel length place) (n + 1) 0
+  passed-over : (t : TokenFrame) → Ahead n s priority from (Token t) (n - offset n (t .master) from + (n + 1)) 1
+  granted : (t : TransmitFrame) → t .named ≡ s → Ahead n s priority from (Transmit t) 0 0
+  granted-another : (t : TransmitFrame) → Ahead n s priority from (Transmit t) (n + 1) 1
+  another's : (i : InformationFrame) → Ahead n s priority from (Information i) (n + 1) 0
 
 -- whatever is on the wire
 pub record SomeAhead (n s priority from : ℕ) (f : Frame) : Type 0 where
@@ -49,12 +51,12 @@ pub record SomeAhead (n s priority from : ℕ) (f : Frame) : Type 0 where
   pub one-information : information ≤ 1
 
 pub some-ahead : {n from to : ℕ} {f : Frame} (s priority : ℕ) → Phase n from to f → SomeAhead n s priority from f
-some-ahead {n} {from} s priority (token k bid m nm a b) =
-    record { short = n - offset n m from + (n + 1); information = 1; ahead = passed-over k bid m nm; few-short = omega arith; one-information = omega arith }
-some-ahead {n} {from} s priority (transmit k bid nm a) =
-    record { short = n + 1; information = 1; ahead = granted-another k bid from nm; few-short = omega arith; one-information = omega arith }
-some-ahead {n} {from} s priority (information k bid c l pl) =
-    record { short = n + 1; information = 0; ahead = another's k bid c l pl; few-short = omega arith; one-information = omega arith }
+some-ahead {n} {from} s priority (token t w a b) =
+    record { short = n - offset n (t .master) from + (n + 1); information = 1; ahead = passed-over t; few-short = omega arith; one-information = omega arith }
+some-ahead {n} {from} s priority (transmit t m a) =
+    record { short = n + 1; information = 1; ahead = granted-another t; few-short = omega arith; one-information = omega arith }
+some-ahead {n} {from} s priority (information i) =
+    record { short = n + 1; information = 0; ahead = another's i; few-short = omega arith; one-information = omega arith }
 
 -- ---- what a step makes of it
 

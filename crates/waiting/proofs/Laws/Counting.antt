@@ -26,10 +26,10 @@ one-kind I = refl
 
 -- 72 octets for a short frame, at most 1,526 for information
 pub few-octets : (n : ℕ) (f : Frame) → fit n f ≡ true → octetsOf f ≤ 72 * isShort (kindOf f) + 1526 * isInformation (kindOf f)
-few-octets n (Token number priority master failing named) e = omega arith
-few-octets n (Transmit number priority master named) e = omega arith
-few-octets n (Information number priority channel len place) e =
-    let h : len ≤ 1492 = leb-true len 1492 (passes (passes e .1) .1) in
+few-octets n (Token t) e = omega arith
+few-octets n (Transmit t) e = omega arith
+few-octets n (Information i) e =
+    let h : i .length ≤ 1492 = leb-true (i .length) 1492 (passes (passes e .1) .1) in
     omega arith
 
 -- ---- the counts of frames composed

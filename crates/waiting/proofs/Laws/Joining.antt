@@ -18,6 +18,7 @@ use Rattle.station.specs.Queue.{newMessage, accepted, queueNumber, queueRule}
 use Rattle.parts.specs.declared.moves.Event.the-variants.{Queue}
 use Rattle.parts.specs.declared.list.Flight.{Flight}
 use Rattle.parts.specs.declared.list.Message.{Message}
+use Rattle.parts.specs.declared.request.Request.{Request}
 use Rattle.station.specs.declared.station.Station.{Station}
 use Rattle.plain_rules.proofs.Laws.Queue.{queue-good}
 use Rattle.station_theorems.proofs.Laws.Based.{in-flight}
@@ -27,24 +28,24 @@ use Rattle.station_theorems.proofs.Laws.Places.{free-place}
 use Rattle.station_theorems.proofs.Laws.Sound.{WholeStation, whole-sound}
 use Rattle.waiting.proofs.Laws.Staying.{WaitsAt}
 
-module _ (s : Station) (whole : WholeStation s) (to priority channel length′ : ℕ) where
+module _ (s : Station) (whole : WholeStation s) (q : Request) where
   abbrev new : Message
-  new = newMessage s to priority channel length′
+  new = newMessage s q
 
-  joined : queueNumber s to priority channel length′ ≡ 0 → all (pushed (s .sends) new) ≡ all (s .sends) ++ new ∷ []
+  joined : queueNumber s q ≡ 0 → all (pushed (s .sends) new) ≡ all (s .sends) ++ new ∷ []
   joined z =
-      let g = queue-good (s .n) (s .own) (liveAt (s .live) to) (s .sends .len) to priority channel length′ z in
+      let g = queue-good (s .n) (s .own) (liveAt (s .live) (q .to)) (s .sends .len) q z in
       push-all (s .sends) new (whole .shaped .sends) (g .room)
 
   -- those that wait stay
-  pub old-waits : (m : Message) → WaitsAt s m → WaitsAt (queueRule s to priority channel length′ .station) m
+  pub old-waits : (m : Message) → WaitsAt s m → WaitsAt (queueRule s q .station) m
   unfolding queueRule moved unless accepted pick
-  old-waits m w = go (eqb (moveOf (stateOf s) Queue) runs) (eqb (queueNumber s to priority channel length′) 0) refl
+  old-waits m w = go (eqb (moveOf (stateOf s) Queue) runs) (eqb (queueNumber s q) 0) refl
     where
-      go : (a b : Bool) → eqb (queueNumber s to priority channel length′) 0 ≡ b
+      go : (a b : Bool) → eqb (queueNumber s q) 0 ≡ b
           → WaitsAt
           (pick a
-          (pick b (accepted s to priority channel length′) (answered s (queueNumber s to priority channel length′)))
+          (pick b (accepted s q) (answered s (queueNumber s q)))
           (answered s (moveOf (stateOf s) Queue))
           .station)
           m
@@ -53,7 +54,7 @@ module _ (s : Station) (whole : WholeStation s) (to priority channel length′ :
       go true true e = record { listed = subst (List·Memᴰ m) (sym (joined (eqb-true _ _ e))) (Memᴰ·append-left (new ∷ []) (w .listed)); rests = w .rests }
 
   -- the new one's place is free, so it is not the place of the one in flight
-  not-flying : queueNumber s to priority channel length′ ≡ 0 → flies (flight (awaitedOf s)) new ≡ false
+  not-flying : queueNumber s q ≡ 0 → flies (flight (awaitedOf s)) new ≡ false
   unfolding best
   not-flying z = go (f .on) refl (eqb (f .place) (new .place)) refl
     where
@@ -62,7 +63,7 @@ module _ (s : Station) (whole : WholeStation s) (to priority channel length′ :
 
       free : hasPlace (all (s .sends)) (lowestFree (all (s .sends))) ≡ false
       free =
-          let g = queue-good (s .n) (s .own) (liveAt (s .live) to) (s .sends .len) to priority channel length′ z in
+          let g = queue-good (s .n) (s .own) (liveAt (s .live) (q .to)) (s .sends .len) q z in
           free-place (all (s .sends)) (omega (arith, length-take (s .sends .len) (s .sends .items), g .room)) .1
 
       go : (a : Bool) → f .on ≡ a → (b : Bool) → eqb (f .place) (new .place) ≡ b → flies f new ≡ false
@@ -73,18 +74,18 @@ module _ (s : Station) (whole : WholeStation s) (to priority channel length′ :
           best-somewhere (f .place) (all (s .sends)) (in-flight (stateOf s) (s .n) (s .own) (s .sends) (awaitedOf s) (whole-sound s whole .awaited) x) in
           absurd (false≢true (sym free ∙ ap (hasPlace (all (s .sends))) (sym (eqb-true (f .place) (new .place) y)) ∙ had))
 
-  pub new-waits : moveOf (stateOf s) Queue ≡ runs → queueRule s to priority channel length′ .number ≡ 0 → WaitsAt (queueRule s to priority channel length′ .station) new
+  pub new-waits : moveOf (stateOf s) Queue ≡ runs → queueRule s q .number ≡ 0 → WaitsAt (queueRule s q .station) new
   unfolding queueRule moved unless accepted pick
-  new-waits r = go (eqb (moveOf (stateOf s) Queue) runs) refl (eqb (queueNumber s to priority channel length′) 0) refl
+  new-waits r = go (eqb (moveOf (stateOf s) Queue) runs) refl (eqb (queueNumber s q) 0) refl
     where
-      go : (a : Bool) → eqb (moveOf (stateOf s) Queue) runs ≡ a → (b : Bool) → eqb (queueNumber s to priority channel length′) 0 ≡ b
+      go : (a : Bool) → eqb (moveOf (stateOf s) Queue) runs ≡ a → (b : Bool) → eqb (queueNumber s q) 0 ≡ b
           → pick a
-          (pick b (accepted s to priority channel length′) (answered s (queueNumber s to priority channel length′)))
+          (pick b (accepted s q) (answered s (queueNumber s q)))
           (answered s (moveOf (stateOf s) Queue))
           .number ≡ 0
           → WaitsAt
           (pick a
-          (pick b (accepted s to priority channel length′) (answered s (queueNumber s to priority channel length′)))
+          (pick b (accepted s q) (answered s (queueNumber s q)))
           (answered s (moveOf (stateOf s) Queue))
           .station)
           new

@@ -61,9 +61,9 @@ module _ (n : ℕ) (x : Spot) (m : Message) where
       go (goes-now w) next = absurd (false≢true (sym g ∙ goes-own x b es (w .is-own)))
       go (waits-on w) next =
           next (w .holds) (top-step x (m .priority) b (es ++ rest) (w .not-own) t) (sym (goes-another x b es (w .not-own)) ∙ g)
-  until-it-goes (queued from to priority channel length ∷ es) rest b h t g =
-      until-it-goes es rest (queue b from to priority channel length .bench) (holds-queue n x m b h from to priority channel length)
-      (top-queue x (m .priority) b from to priority channel length (es ++ rest) t) g
+  until-it-goes (queued from q ∷ es) rest b h t g =
+      until-it-goes es rest (queue b from q .bench) (holds-queue n x m b h from q)
+      (top-queue x (m .priority) b from q (es ++ rest) t) g
 
   -- ---- its own frame
 

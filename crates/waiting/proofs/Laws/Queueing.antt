@@ -15,6 +15,7 @@ use Rattle.parts.specs.declared.moves.State.{State}
 use Rattle.parts.specs.declared.moves.Event.the-variants.{Queue}
 use Rattle.parts.specs.declared.list.Message.{Message}
 use Rattle.parts.specs.declared.frame.Frame.{Frame}
+use Rattle.parts.specs.declared.request.Request.{Request}
 use Rattle.station.specs.declared.station.Station.{Station}
 use Rattle.bench.specs.Ring.{nobody, stationAt}
 use Rattle.bench.specs.Calls.{withStation, queueAt, queue}
@@ -32,29 +33,29 @@ takes-part (sender e w a) = ap (λ (st : State). moveOf st Queue) w
 takes-part (last-sender o e w g a k) = ap (λ (st : State). moveOf st Queue) w
 takes-part (at-rest o e i) = ap (λ (st : State). moveOf st Queue) i
 
-module _ {limit : ℕ} (b : Bench) (q : Quiet limit b) (from to priority channel length′ : ℕ) where
+module _ {limit : ℕ} (b : Bench) (q : Quiet limit b) (from : ℕ) (r : Request) where
   -- what holds of the call outside the ring and inside it holds of it
-  queue-either : (P : Queued → Type 0) → P (record { bench = b; number = 15 }) → (from < b .n → P (queueAt b from (queueRule (stationAt b from) to priority channel length′)))
-      → P (queue b from to priority channel length′)
+  queue-either : (P : Queued → Type 0) → P (record { bench = b; number = 15 }) → (from < b .n → P (queueAt b from (queueRule (stationAt b from) r)))
+      → P (queue b from r)
   unfolding queue pick
   queue-either P x y = go (leb (seats (b .n)) from) refl
     where
       go : (t : Bool) → leb (seats (b .n)) from ≡ t
-          → P (pick {A = Queued} t (record { bench = b; number = 15 }) (queueAt b from (queueRule (stationAt b from) to priority channel length′)))
+          → P (pick {A = Queued} t (record { bench = b; number = 15 }) (queueAt b from (queueRule (stationAt b from) r)))
       go true e = x
       go false e = y (seats-members (b .n) from (leb-false (seats (b .n)) from e))
 
-  pub queue-n : queue b from to priority channel length′ .bench .n ≡ b .n
-  queue-n = queue-either (λ (r : Queued). r .bench .n ≡ b .n) refl (λ h. refl)
+  pub queue-n : queue b from r .bench .n ≡ b .n
+  queue-n = queue-either (λ (x : Queued). x .bench .n ≡ b .n) refl (λ h. refl)
 
   here : from < b .n → (s : Station) → stationAt (withStation b from s) from ≡ s
   here h s = getD-set-same (b .stations) from s nobody (omega (arith, q .table, q .picture .most-members))
 
-  pub waits-queue : (p : ℕ) → p < b .n → (m : Message) → Waits b p m → Waits (queue b from to priority channel length′ .bench) p m
-  waits-queue p member m w = queue-either (λ (r : Queued). Waits (r .bench) p m) w (λ h. go h (eqb p from) refl)
+  pub waits-queue : (p : ℕ) → p < b .n → (m : Message) → Waits b p m → Waits (queue b from r .bench) p m
+  waits-queue p member m w = queue-either (λ (x : Queued). Waits (x .bench) p m) w (λ h. go h (eqb p from) refl)
     where
       s : Station
-      s = queueRule (stationAt b from) to priority channel length′ .station
+      s = queueRule (stationAt b from) r .station
 
       go : from < b .n → (t : Bool) → eqb p from ≡ t → Waits (withStation b from s) p m
       go h true e =
@@ -62,7 +63,7 @@ module _ {limit : ℕ} (b : Bench) (q : Quiet limit b) (from to priority channel
           subst (λ (i : ℕ). Waits (withStation b from s) i m) (sym same)
           (there-waits (withStation b from s) from m
           (subst (λ (x : Station). WaitsAt x m) (sym (here h s))
-          (old-waits (stationAt b from) (q .picture .members from h .whole) to priority channel length′ m
+          (old-waits (stationAt b from) (q .picture .members from h .whole) r m
           (subst (λ (i : ℕ). WaitsAt (stationAt b i) m) same (waits-there b p m w)))))
       go h false e =
           there-waits (withStation b from s) p m
@@ -71,19 +72,19 @@ module _ {limit : ℕ} (b : Bench) (q : Quiet limit b) (from to priority channel
   -- the accepted message
   pub record Accepted : Type 0 where
     pub member : from < b .n
-    pub waits : Waits (queue b from to priority channel length′ .bench) from (newMessage (stationAt b from) to priority channel length′)
+    pub waits : Waits (queue b from r .bench) from (newMessage (stationAt b from) r)
 
-  pub accepted-waits : queue b from to priority channel length′ .number ≡ 0 → Accepted
+  pub accepted-waits : queue b from r .number ≡ 0 → Accepted
   accepted-waits z =
-      let m : Message = newMessage (stationAt b from) to priority channel length′ in
-      let r = queue-either
-      (λ (r : Queued). r .number ≡ 0 → (from < b .n) × Waits (r .bench) from m)
+      let m : Message = newMessage (stationAt b from) r in
+      let w = queue-either
+      (λ (x : Queued). x .number ≡ 0 → (from < b .n) × Waits (x .bench) from m)
       (λ e. absurd (omega arith))
       (λ h e. (
         h,
         there-waits _ from m
             (subst (λ (x : Station). WaitsAt x m) (sym (here h _))
-            (new-waits (stationAt b from) (q .picture .members from h .whole) to priority channel length′ (takes-part (q .picture .turns from h)) e)),
+            (new-waits (stationAt b from) (q .picture .members from h .whole) r (takes-part (q .picture .turns from h)) e)),
       ))
       z in
-      record { member = r .0; waits = r .1 }
+      record { member = w .0; waits = w .1 }

@@ -7,7 +7,7 @@ use lib.Dec.{eqb}
 use borrow.Author.Tests.{eqb-true, eqb-false}
 use Rattle.parts.specs.Choose.{pick}
 use Rattle.parts.specs.Messages.{theBest}
-use Rattle.plain_rules.specs.Round.{priorityOf, startRound, informationOf, sendHead, grant}
+use Rattle.plain_rules.specs.Round.{priorityOf, opening, granting, startRound, informationOf, sendHead, grant}
 use Rattle.parts.specs.declared.list.Best.{Best}
 use Rattle.parts.specs.declared.list.Message.{Message}
 use Rattle.parts.specs.declared.frame.Whom.the-variants.{Nobody}
@@ -42,15 +42,15 @@ module _ (n : ℕ) (heads : ℕ → Best) (s : ℕ) (m : Message) (t : Tops n he
   unfolding startRound pick
   round-turns enough = go (eqb p s) refl
     where
-      go : (b : Bool) → eqb p s ≡ b → Lowers (Sent (Token number (priorityOf (heads p)) p Nobody p) (after n p))
+      go : (b : Bool) → eqb p s ≡ b → Lowers (Sent (Token (opening p (priorityOf (heads p)) number Nobody)) (after n p))
       go true e =
           let q : p ≡ s = eqb-true p s e in
-          another (Token number (priorityOf (heads p)) p Nobody p) (after n p) refl (λ x. refl) _ _
-          (named number (priorityOf (heads p)) p p q (ap (λ (i : ℕ). priorityOf (heads i)) q ∙ ap priorityOf (t .own-head)))
+          another (Token (opening p (priorityOf (heads p)) number Nobody)) (after n p) refl (λ x. refl) _ _
+          (named _ q (ap (λ (i : ℕ). priorityOf (heads i)) q ∙ ap priorityOf (t .own-head)))
           (omega arith) (omega arith)
       go false e =
-          another (Token number (priorityOf (heads p)) p Nobody p) (after n p) refl (λ x. refl) _ _
-          (to-ask number (priorityOf (heads p)) p p (not-asked (eqb-false p s e)))
+          another (Token (opening p (priorityOf (heads p)) number Nobody)) (after n p) refl (λ x. refl) _ _
+          (to-ask _ (not-asked (eqb-false p s e)))
           (omega arith) (omega arith)
 
   -- told to send: at s it is the message's own frame, elsewhere the information frame
@@ -69,7 +69,7 @@ module _ (n : ℕ) (heads : ℕ → Best) (s : ℕ) (m : Message) (t : Tops n he
           either Lowers _ _ _
           (λ x.
           another _ _ refl (λ q. absurd (o q)) _ _
-          (another's number (heads p .message .priority) (heads p .message .channel) (heads p .message .length) (heads p .message .place))
+          (another's _)
           (omega arith) (omega arith))
           (λ x. round-turns (w .0))
 
@@ -79,9 +79,9 @@ module _ (n : ℕ) (heads : ℕ → Best) (s : ℕ) (m : Message) (t : Tops n he
   unfolding grant
   grant-turns priority name most member one enough = subst Lowers (sym (pick-true _ _ (full-live n name most member))) (go (eqb name s) refl)
     where
-      go : (b : Bool) → eqb name s ≡ b → Lowers (Sent (Transmit number priority p name) name)
+      go : (b : Bool) → eqb name s ≡ b → Lowers (Sent (Transmit (granting number priority p name)) name)
       go true e =
-          another (Transmit number priority p name) name refl (λ x. refl) _ _ (granted number priority p name (eqb-true name s e)) (omega arith) (omega arith)
+          another (Transmit (granting number priority p name)) name refl (λ x. refl) _ _ (granted _ (eqb-true name s e)) (omega arith) (omega arith)
       go false e =
           let w = enough (eqb-false name s e) in
-          another (Transmit number priority p name) name refl (λ x. refl) _ _ (granted-another number priority p name) (omega arith) (omega arith)
+          another (Transmit (granting number priority p name)) name refl (λ x. refl) _ _ (granted-another _) (omega arith) (omega arith)

@@ -11,7 +11,9 @@ use Rattle.parts.specs.Frames.{flight, flightIn}
 use Rattle.station.specs.Stations.{awaitedOf}
 use Rattle.plain_rules.specs.Round.{reply}
 use Rattle.parts.specs.declared.list.Message.{Message}
-use Rattle.parts.specs.declared.frame.Whom.{Whom}
+use Rattle.parts.specs.declared.frame.TokenFrame.{TokenFrame}
+use Rattle.parts.specs.declared.frame.TransmitFrame.{TransmitFrame}
+use Rattle.parts.specs.declared.frame.InformationFrame.{InformationFrame}
 use Rattle.parts.specs.declared.frame.Frame.{Frame}
 use Rattle.parts.specs.declared.frame.Frame.the-variants.{Token, Transmit, Information}
 use Rattle.parts.specs.declared.frame.Dispatch.the-variants.{Sent}
@@ -31,14 +33,14 @@ pub record Short (g : Frame) : Type 0 where
   pub weighs : Weighs g 1 0
   pub carries-none : flightIn g .on ≡ false
 
-pub token-short : (k pr m : ℕ) (w : Whom) (nm : ℕ) → Short (Token k pr m w nm)
-token-short k pr m w nm = record { weighs = record { short = refl; information = refl; octets = refl; one = refl }; carries-none = refl }
+pub token-short : (t : TokenFrame) → Short (Token t)
+token-short t = record { weighs = record { short = refl; information = refl; octets = refl; one = refl }; carries-none = refl }
 
-pub transmit-short : (k pr m nm : ℕ) → Short (Transmit k pr m nm)
-transmit-short k pr m nm = record { weighs = record { short = refl; information = refl; octets = refl; one = refl }; carries-none = refl }
+pub transmit-short : (t : TransmitFrame) → Short (Transmit t)
+transmit-short t = record { weighs = record { short = refl; information = refl; octets = refl; one = refl }; carries-none = refl }
 
-pub longest-weighs : (k pr c pl : ℕ) → Weighs (Information k pr c 1492 pl) 0 1
-longest-weighs k pr c pl = record { short = refl; information = refl; octets = refl; one = refl }
+pub longest-weighs : (i : InformationFrame) → i .length ≡ 1492 → Weighs (Information i) 0 1
+longest-weighs i e = record { short = refl; information = refl; octets = omega (arith, e); one = refl }
 
 -- ---- whose frame it is
 

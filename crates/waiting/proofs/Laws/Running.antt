@@ -8,6 +8,7 @@ use native.Mathlib.Omega.{arith}
 use Rattle.parts.specs.declared.list.Message.{Message}
 use Rattle.parts.specs.declared.frame.Dispatch.{Dispatch}
 use Rattle.parts.specs.declared.frame.Dispatch.the-variants.{Sent}
+use Rattle.parts.specs.declared.request.Request.{Request}
 use Rattle.bench.specs.Delivery.{step}
 use Rattle.bench.specs.Calls.{queue}
 use Rattle.bench.specs.Rows.{kindOf, rowOn}
@@ -25,16 +26,16 @@ use Rattle.waiting.proofs.Laws.Stepping.{Holds, AheadOn, WaitsOn, Steps
 
 -- ---- a queue call
 
-pub holds-queue : (n : ℕ) (x : Spot) (m : Message) (b : Bench) → Holds n x m b → (from to priority channel length : ℕ)
-    → Holds n x m (queue b from to priority channel length .bench)
-holds-queue n x m b h from to priority channel length =
+pub holds-queue : (n : ℕ) (x : Spot) (m : Message) (b : Bench) → Holds n x m b → (from : ℕ) (q : Request)
+    → Holds n x m (queue b from q .bench)
+holds-queue n x m b h from q =
     record {
       limit = h .limit;
-      quiet = quiet-queue b (h .quiet) from to priority channel length;
-      size = queue-n b (h .quiet) from to priority channel length ∙ h .size;
+      quiet = quiet-queue b (h .quiet) from q;
+      size = queue-n b (h .quiet) from q ∙ h .size;
       member = h .member;
       place = h .place;
-      waits = waits-queue b (h .quiet) from to priority channel length (x .station) (subst (λ (i : ℕ). x .station < i) (sym (h .size)) (h .member)) m (h .waits);
+      waits = waits-queue b (h .quiet) from q (x .station) (subst (λ (i : ℕ). x .station < i) (sym (h .size)) (h .member)) m (h .waits);
     }
 
 -- ---- on top, now and later
@@ -44,16 +45,16 @@ module _ (x : Spot) (priority : ℕ) (b : Bench) where
   unfolding StaysOnTop
   top-now [] t = t
   top-now (stepped ∷ es) t = t .0
-  top-now (queued from to level channel length ∷ es) t = t .0
+  top-now (queued from q ∷ es) t = t .0
 
   pub top-step : (es : List Event) → own x (step b .wire) ≡ false → StaysOnTop x priority b (stepped ∷ es) → StaysOnTop x priority (step b) es
   unfolding StaysOnTop
   top-step es e t = subst (λ (o : Bool). Until o (StaysOnTop x priority (step b) es)) e (t .1)
 
-  pub top-queue : (from to level channel length : ℕ) (es : List Event) → StaysOnTop x priority b (queued from to level channel length ∷ es)
-      → StaysOnTop x priority (queue b from to level channel length .bench) es
+  pub top-queue : (from : ℕ) (q : Request) (es : List Event) → StaysOnTop x priority b (queued from q ∷ es)
+      → StaysOnTop x priority (queue b from q .bench) es
   unfolding StaysOnTop afterEvent
-  top-queue from to level channel length es t = t .1
+  top-queue from q es t = t .1
 
 -- ---- a run
 
@@ -67,10 +68,10 @@ module _ (n : ℕ) (x : Spot) (m : Message) where
   unfolding before stepsIn
   stops b short info = record { counts = counts-none short info; goes-then = λ l. absurd (omega arith) }
 
-  queues : (b : Bench) (from to priority channel length : ℕ) (es : List Event) (short info : ℕ) → Runs x (queue b from to priority channel length .bench) es short info
-      → Runs x b (queued from to priority channel length ∷ es) short info
+  queues : (b : Bench) (from : ℕ) (q : Request) (es : List Event) (short info : ℕ) → Runs x (queue b from q .bench) es short info
+      → Runs x b (queued from q ∷ es) short info
   unfolding before goes stepsIn afterEvent
-  queues b from to priority channel length es short info r = record { counts = r .counts; goes-then = r .goes-then }
+  queues b from q es short info r = record { counts = r .counts; goes-then = r .goes-then }
 
   ends : (b : Bench) (es : List Event) (short info : ℕ) → own x (step b .wire) ≡ true → Runs x b (stepped ∷ es) short info
   ends b es short info e =
@@ -107,8 +108,8 @@ module _ (n : ℕ) (x : Spot) (m : Message) where
       go (goes-now g) rest = ends b es short info (g .is-own)
       go (waits-on w) rest =
           continues b es short info w (rest (w .holds) (w .short′) (w .info′) (w .rank) (top-step x (m .priority) b es (w .not-own) t))
-  runs-so (queued from to priority channel length ∷ es) b h short info a t =
-      queues b from to priority channel length es short info
-      (runs-so es (queue b from to priority channel length .bench) (holds-queue n x m b h from to priority channel length) short info
-      (subst (λ (w : Wire). AheadOn n (x .station) (m .priority) w short info) (sym (queue-wire b from to priority channel length)) a)
-      (top-queue x (m .priority) b from to priority channel length es t))
+  runs-so (queued from q ∷ es) b h short info a t =
+      queues b from q es short info
+      (runs-so es (queue b from q .bench) (holds-queue n x m b h from q) short info
+      (subst (λ (w : Wire). AheadOn n (x .station) (m .priority) w short info) (sym (queue-wire b from q)) a)
+      (top-queue x (m .priority) b from q es t))

@@ -7,18 +7,19 @@ use native.Mathlib.Omega.{arith}
 use lib.Dec.{eqb}
 use borrow.Author.Tests.{eqb-true, eqb-false, eq-eqb, ne-eqb}
 use Rattle.parts.specs.Choose.{pick}
+use Rattle.parts.specs.Messages.{messageFor}
 use Rattle.parts.specs.declared.list.Message.{Message}
 use Rattle.parts.proofs.Laws.Choose.{pick-true, pick-false}
-use Rattle.waiting.specs.Waiting.{Spot}
+use Rattle.waiting.specs.Waiting.{Spot, itsRequest, foreignRequest}
 use Rattle.waiting.proofs.Laws.RunAhead.{Below}
 
 -- to station 1 with priority 9 and no octets
 abbrev pub its : Message
-its = record { other = 1; priority = 9; channel = 0; length = 0; place = 0 }
+its = messageFor itsRequest 0
 
 -- to station 1 with priority 5 and 1,492 octets
 abbrev pub foreign : Message
-foreign = record { other = 1; priority = 5; channel = 0; length = 1492; place = 0 }
+foreign = messageFor foreignRequest 0
 
 abbrev pub spot : Spot
 spot = record { station = 0; place = 0 }

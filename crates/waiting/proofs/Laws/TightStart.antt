@@ -32,6 +32,7 @@ use Rattle.bench_theorems.proofs.Laws.Ringing.{first-wire, quiet-start}
 use Rattle.bench_theorems.proofs.Laws.Queueing.{quiet-queue, queue-wire}
 use Rattle.bench_theorems.proofs.Theorems.ReachedQuiet.{reached-n}
 use Rattle.bench_theorems.proofs.Theorems.NoneRefused.{queues}
+use Rattle.waiting.specs.Waiting.{itsRequest, foreignRequest}
 use Rattle.waiting.proofs.Laws.RunWaiting.{waiting}
 use Rattle.waiting.proofs.Laws.RunState.{Runs}
 use Rattle.waiting.proofs.Laws.RunQueue.{Unused, unused-waits, unused-place, Proper, queue-number, queue-here, queue-other}
@@ -57,7 +58,7 @@ starts s = go (eqb (moveOf (stateOf s) Start) runs) (eqb (s .own) 0)
 
 -- the foreign message has been queued
 abbrev pub ready : ℕ → ℕ → Bench
-ready n limit = queue (ringWith n limit) (n - 1) 1 5 0 1492 .bench
+ready n limit = queue (ringWith n limit) (n - 1) foreignRequest .bench
 
 module _ (n limit : ℕ) (three : 3 ≤ n) (most : n ≤ 64) (low : 1 ≤ limit) (high : limit ≤ 15) where
   two : 2 ≤ n
@@ -75,25 +76,25 @@ module _ (n limit : ℕ) (three : 3 ≤ n) (most : n ≤ 64) (low : 1 ≤ limit)
 
   -- ---- the foreign message
 
-  proper-foreign : Proper n (n - 1) 1 5 0 1492
+  proper-foreign : Proper n (n - 1) foreignRequest
   proper-foreign =
       record { member = omega arith; another = λ e. omega arith; some = omega arith; most = omega arith; channel-fits = omega arith; length-fits = omega arith }
 
   ready-quiet : Quiet limit (ready n limit)
-  ready-quiet = quiet-queue (ringWith n limit) (quiet-start n limit two most low high) (n - 1) 1 5 0 1492
+  ready-quiet = quiet-queue (ringWith n limit) (quiet-start n limit two most low high) (n - 1) foreignRequest
 
   ready-n : ready n limit .n ≡ n
   unfolding final afterEvent
-  ready-n = reached-n n limit two most low high (queued (n - 1) 1 5 0 1492 ∷ [])
+  ready-n = reached-n n limit two most low high (queued (n - 1) foreignRequest ∷ [])
 
   ready-last : waiting (stationAt (ready n limit) (n - 1)) ≡ foreign ∷ []
   ready-last =
-      queue-here (ringWith n limit) (quiet-start n limit two most low high) n (ring-n n limit two most) (n - 1) (omega arith) (unused-start (n - 1) (omega arith)) 1 5 0 1492 proper-foreign
+      queue-here (ringWith n limit) (quiet-start n limit two most low high) n (ring-n n limit two most) (n - 1) (omega arith) (unused-start (n - 1) (omega arith)) foreignRequest proper-foreign
 
   ready-unused : (p : ℕ) → p < n → (p ≡ n - 1 → ⊥) → Unused n limit p (stationAt (ready n limit) p)
   ready-unused p h o =
       subst (Unused n limit p)
-      (sym (queue-other (ringWith n limit) (quiet-start n limit two most low high) n (ring-n n limit two most) (n - 1) (omega arith) (unused-start (n - 1) (omega arith)) 1 5 0 1492 proper-foreign p o))
+      (sym (queue-other (ringWith n limit) (quiet-start n limit two most low high) n (ring-n n limit two most) (n - 1) (omega arith) (unused-start (n - 1) (omega arith)) foreignRequest proper-foreign p o))
       (unused-start p h)
 
   -- ---- the message
@@ -101,36 +102,36 @@ module _ (n limit : ℕ) (three : 3 ≤ n) (most : n ≤ 64) (low : 1 ≤ limit)
   first-unused : Unused n limit 0 (stationAt (ready n limit) 0)
   first-unused = ready-unused 0 (omega arith) (λ e. omega arith)
 
-  proper-its : Proper n 0 1 9 0 0
+  proper-its : Proper n 0 itsRequest
   proper-its =
       record { member = omega arith; another = λ e. omega arith; some = omega arith; most = omega arith; channel-fits = omega arith; length-fits = omega arith }
 
   pub its-place : lowestFree (all (stationAt (ready n limit) 0 .sends)) ≡ 0
   its-place = unused-place first-unused
 
-  pub its-accepted : queue (ready n limit) 0 1 9 0 0 .number ≡ 0
-  its-accepted = queue-number (ready n limit) ready-quiet n ready-n 0 (omega arith) first-unused 1 9 0 0 proper-its
+  pub its-accepted : queue (ready n limit) 0 itsRequest .number ≡ 0
+  its-accepted = queue-number (ready n limit) ready-quiet n ready-n 0 (omega arith) first-unused itsRequest proper-its
 
   -- the run begins
-  pub begins : Runs n (load n (foreign ∷ [])) 0 firstFrame (after n 0) (queue (ready n limit) 0 1 9 0 0 .bench)
+  pub begins : Runs n (load n (foreign ∷ [])) 0 firstFrame (after n 0) (queue (ready n limit) 0 itsRequest .bench)
   unfolding final afterEvent
   begins =
       record {
         limit = limit;
-        quiet = quiet-queue (ready n limit) ready-quiet 0 1 9 0 0;
-        same-n = reached-n n limit two most low high (queued (n - 1) 1 5 0 1492 ∷ queued 0 1 9 0 0 ∷ []);
-        wire = queue-wire (ready n limit) 0 1 9 0 0 ∙ queue-wire (ringWith n limit) (n - 1) 1 5 0 1492 ∙ first-wire n limit two most low high;
+        quiet = quiet-queue (ready n limit) ready-quiet 0 itsRequest;
+        same-n = reached-n n limit two most low high (queued (n - 1) foreignRequest ∷ queued 0 itsRequest ∷ []);
+        wire = queue-wire (ready n limit) 0 itsRequest ∙ queue-wire (ringWith n limit) (n - 1) foreignRequest ∙ first-wire n limit two most low high;
         loads = λ p h. go p h (eqb p 0) refl (eqb p (n - 1)) refl;
       }
     where
-      same : (p : ℕ) → (p ≡ 0 → ⊥) → stationAt (queue (ready n limit) 0 1 9 0 0 .bench) p ≡ stationAt (ready n limit) p
-      same = queue-other (ready n limit) ready-quiet n ready-n 0 (omega arith) first-unused 1 9 0 0 proper-its
+      same : (p : ℕ) → (p ≡ 0 → ⊥) → stationAt (queue (ready n limit) 0 itsRequest .bench) p ≡ stationAt (ready n limit) p
+      same = queue-other (ready n limit) ready-quiet n ready-n 0 (omega arith) first-unused itsRequest proper-its
 
-      go : (p : ℕ) → p < n → (t : Bool) → eqb p 0 ≡ t → (u : Bool) → eqb p (n - 1) ≡ u → waiting (stationAt (queue (ready n limit) 0 1 9 0 0 .bench) p) ≡ load n (foreign ∷ []) p
+      go : (p : ℕ) → p < n → (t : Bool) → eqb p 0 ≡ t → (u : Bool) → eqb p (n - 1) ≡ u → waiting (stationAt (queue (ready n limit) 0 itsRequest .bench) p) ≡ load n (foreign ∷ []) p
       go p h true e u d =
           let z : p ≡ 0 = eqb-true p 0 e in
-          ap (λ (i : ℕ). waiting (stationAt (queue (ready n limit) 0 1 9 0 0 .bench) i)) z
-          ∙ queue-here (ready n limit) ready-quiet n ready-n 0 (omega arith) first-unused 1 9 0 0 proper-its
+          ap (λ (i : ℕ). waiting (stationAt (queue (ready n limit) 0 itsRequest .bench) i)) z
+          ∙ queue-here (ready n limit) ready-quiet n ready-n 0 (omega arith) first-unused itsRequest proper-its
           ∙ sym (ap (load n (foreign ∷ [])) z ∙ load-first n (foreign ∷ []))
       go p h false e true d =
           let z : p ≡ n - 1 = eqb-true p (n - 1) d in

@@ -22,7 +22,7 @@ module _ (x : Spot) where
       go true e rest = absurd (false≢true (sym g ∙ goes-own x b es e))
       go false e rest =
           before-another x b es e ∙ ap (λ (rows : List Row). rowsOn (step b .wire) ++ rows) (rest (sym (goes-another x b es e) ∙ g))
-  before-all (queued from to priority channel length ∷ es) b g = before-all es (afterEvent b (queued from to priority channel length)) g
+  before-all (queued from q ∷ es) b g = before-all es (afterEvent b (queued from q)) g
 
   -- where it goes: the step that composes its own frame, and none before it has
   pub record GoesAt (b : Bench) (after : List Event) : Type 0 where
@@ -50,12 +50,12 @@ module _ (x : Spot) where
             its-own = w .its-own;
             counted = before-another x b es e ∙ ap (λ (rows : List Row). rowsOn (step b .wire) ++ rows) (w .counted);
           }
-  goes-at (queued from to priority channel length ∷ es) b g =
-      let w = goes-at es (afterEvent b (queued from to priority channel length)) g in
+  goes-at (queued from q ∷ es) b g =
+      let w = goes-at es (afterEvent b (queued from q)) g in
       record {
-        first = queued from to priority channel length ∷ w .first;
+        first = queued from q ∷ w .first;
         rest = w .rest;
-        splits = ap (λ (l : List Event). queued from to priority channel length ∷ l) (w .splits);
+        splits = ap (λ (l : List Event). queued from q ∷ l) (w .splits);
         not-earlier = w .not-earlier;
         its-own = w .its-own;
         counted = w .counted;

@@ -9,6 +9,7 @@ use native.Mathlib.Omega.{arith}
 use Rattle.plain_rules.specs.Round.{informationOf}
 use Rattle.station.specs.Queue.{newMessage}
 use Rattle.parts.specs.declared.list.Message.{Message}
+use Rattle.parts.specs.declared.request.Request.{Request}
 use Rattle.bench.specs.Ring.{stationAt}
 use Rattle.bench.specs.Delivery.{step}
 use Rattle.bench.specs.Calls.{queue}
@@ -58,22 +59,22 @@ module _ (n : ℕ) (x : Spot) (m : Message) (b : Bench) (h : Holds n x m b) (aft
       }
 
 -- every ring, every run, every accepted call, and everything after it
-pub bound : (n limit : ℕ) → 2 ≤ n → n ≤ 64 → 1 ≤ limit → limit ≤ 15 → (es : List Event) (from to priority channel length : ℕ)
-    → queue (atQueue n limit es) from to priority channel length .number ≡ 0
+pub bound : (n limit : ℕ) → 2 ≤ n → n ≤ 64 → 1 ≤ limit → limit ≤ 15 → (es : List Event) (from : ℕ) (r : Request)
+    → queue (atQueue n limit es) from r .number ≡ 0
     → (after : List Event)
-    → StaysOnTop (spotFor (atQueue n limit es) from) priority (queue (atQueue n limit es) from to priority channel length .bench) after
-    → Bound n (spotFor (atQueue n limit es) from) (newMessage (stationAt (atQueue n limit es) from) to priority channel length)
-    (queue (atQueue n limit es) from to priority channel length .bench) after
-bound n limit two most low high es from to priority channel length z after t =
+    → StaysOnTop (spotFor (atQueue n limit es) from) (r .priority) (queue (atQueue n limit es) from r .bench) after
+    → Bound n (spotFor (atQueue n limit es) from) (newMessage (stationAt (atQueue n limit es) from) r)
+    (queue (atQueue n limit es) from r .bench) after
+bound n limit two most low high es from r z after t =
     let b : Bench = atQueue n limit es in
     let q : Quiet limit b = reached-quiet n limit two most low high es in
     let size : b .n ≡ n = reached-n n limit two most low high es in
-    let a = accepted-waits b q from to priority channel length z in
-    held-bound n (spotFor b from) (newMessage (stationAt b from) to priority channel length) (queue b from to priority channel length .bench)
+    let a = accepted-waits b q from r z in
+    held-bound n (spotFor b from) (newMessage (stationAt b from) r) (queue b from r .bench)
     (record {
       limit = limit;
-      quiet = quiet-queue b q from to priority channel length;
-      size = queue-n b q from to priority channel length ∙ size;
+      quiet = quiet-queue b q from r;
+      size = queue-n b q from r ∙ size;
       member = subst (λ (i : ℕ). from < i) size (a .member);
       place = refl;
       waits = a .waits;

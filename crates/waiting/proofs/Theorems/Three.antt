@@ -7,7 +7,7 @@ use Rattle.bench.specs.Calls.{queue}
 use Rattle.bench.specs.Runs.{stepping}
 use Rattle.bench.specs.declared.ring.Bench.{Bench}
 use Rattle.bench.specs.declared.rows.Row.{Row}
-use Rattle.waiting.specs.Waiting.{spotFor, before, shorts, octetsOnWire, atQueue}
+use Rattle.waiting.specs.Waiting.{spotFor, before, shorts, octetsOnWire, atQueue, itsRequest}
 use Rattle.waiting.proofs.Theorems.Tight.{foreignQueued, tight}
 
 module _ (limit : ℕ) where
@@ -15,7 +15,7 @@ module _ (limit : ℕ) where
   bench = atQueue 3 limit (foreignQueued 3)
 
   abbrev pub rows : List Row
-  rows = before (spotFor bench 0) (queue bench 0 1 9 0 0 .bench) (stepping 9)
+  rows = before (spotFor bench 0) (queue bench 0 itsRequest .bench) (stepping 9)
 
   pub three : 1 ≤ limit → limit ≤ 15 → (shorts rows ≡ 7) × (octetsOnWire rows ≡ 2030)
   three low high =

@@ -8,7 +8,7 @@ use native.Mathlib.Omega.{arith}
 use Rattle.bench.specs.Calls.{queue}
 use Rattle.bench.specs.Runs.{Event, queued, afterEvent, final, stepping}
 use Rattle.bench.specs.declared.ring.Bench.{Bench}
-use Rattle.waiting.specs.Waiting.{Spot, spotFor, StaysOnTop, atQueue, fewest, ReachesBound}
+use Rattle.waiting.specs.Waiting.{Spot, spotFor, StaysOnTop, atQueue, fewest, itsRequest, foreignRequest, ReachesBound}
 use Rattle.waiting.proofs.Laws.RunCounts.{Counts}
 use Rattle.waiting.proofs.Laws.RunAhead.{Ahead}
 use Rattle.waiting.proofs.Laws.TightLoad.{spot}
@@ -17,12 +17,12 @@ use Rattle.waiting.proofs.Laws.TightStart.{ready, its-place, its-accept
 
 -- a message from station 0 to 1 with priority 9 and no octets is accepted at the bench b, stays on top, and reaches the bound
 pub record Tight (n : ℕ) (b : Bench) : Type 0 where
-  pub accepted : queue b 0 1 9 0 0 .number ≡ 0
-  pub stays : StaysOnTop (spotFor b 0) 9 (queue b 0 1 9 0 0 .bench) (stepping (2 * n + 3))
-  pub reaches : ReachesBound n (spotFor b 0) (queue b 0 1 9 0 0 .bench) (stepping (2 * n + 3))
+  pub accepted : queue b 0 itsRequest .number ≡ 0
+  pub stays : StaysOnTop (spotFor b 0) 9 (queue b 0 itsRequest .bench) (stepping (2 * n + 3))
+  pub reaches : ReachesBound n (spotFor b 0) (queue b 0 itsRequest .bench) (stepping (2 * n + 3))
 
 abbrev pub foreignQueued : ℕ → List Event
-foreignQueued n = queued (n - 1) 1 5 0 1492 ∷ []
+foreignQueued n = queued (n - 1) foreignRequest ∷ []
 
 reached : (n : ℕ) (x : Spot) (b : Bench) → Counts x 9 b (stepping (2 * n + 3)) (2 * n + 1) 1 → ReachesBound n x b (stepping (2 * n + 3))
 reached n x b c =
@@ -36,7 +36,7 @@ reached n x b c =
 
 module _ (n limit : ℕ) (three : fewest ≤ n) (most : n ≤ 64) (low : 1 ≤ limit) (high : limit ≤ 15) where
   itsBench : Bench
-  itsBench = queue (ready n limit) 0 1 9 0 0 .bench
+  itsBench = queue (ready n limit) 0 itsRequest .bench
 
   counted : Counts spot 9 itsBench (stepping (2 * n + 3)) (2 * n + 1) 1
   unfolding itsBench

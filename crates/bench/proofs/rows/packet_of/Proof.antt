@@ -47,7 +47,7 @@ returns-2 : tie.Need-returns-2
 returns-2 c = c .transmit .ensures ∙ rw (c .before .before .before .before .f2 .given .1, c .before .address-of4 .ensures, c .before .before .address-of3 .ensures)
 
 returns-3 : tie.Need-returns-3
-returns-3 c = c .information .ensures ∙ rw (c .before .before .f3 .given .1)
+returns-3 c = c .information .ensures ∙ rw (c .before .before .before .f3 .given .1)
 
 pub packet-of-spec : {M : Type 1} → statement M
 packet-of-spec =

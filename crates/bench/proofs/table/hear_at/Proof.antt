@@ -1,4 +1,4 @@
--- `table::hear_at` meets its contract: a walk of its MIR, by hand. The slice is lent as a shared one to `light_at`, and comes back as it was. Then it goes for good, at its own lifetime, share and ghost name, to `turn_at` or to `step_at`,
+-- `table::hear_at` meets its contract: a walk of its MIR, by hand. The slice is lent as a shared one to `turned_at`, and comes back as it was. Then it goes for good, at its own lifetime, share and ghost name, to `turn_at` or to `step_at`,
 -- so what that callee says of its last list is said of ours.
 -- Assumes nothing.
 use mathlib.Core.Path.{_≡_, refl, sym, ap, _∙_}
@@ -46,11 +46,12 @@ use Rattle.parts.specs.declared.frame.Dispatch.{Dispatch}
 use Rattle.station.specs.declared.station.Turn.{Turn}
 use Rattle.station.specs.declared.station.Station.{Station}
 use Rattle.station.specs.declared.station.Answer.{Answer}
-use Rattle.station.specs.declared.rules.light.Light.{Light}
+use Rattle.station.specs.declared.rules.deeds.Turned.{Turned}
 use Rattle.station.specs.Stations.{withTurn}
 use Rattle.station.specs.Heard.{frameRule}
-use Rattle.station.specs.Light.{lightRule, turnAlone}
-use Rattle.station.proofs.Laws.Light.{lightly-hears}
+use Rattle.station.specs.Deeds.{turnAlone}
+use Rattle.station.specs.Decide.{decided, turnedBy}
+use Rattle.station.proofs.Laws.Decide.{turned-hears}
 use Rattle.bench.specs.Ring.{nobody}
 use Rattle.bench.proofs.Laws.Shared.{LentShared, lends-shared, shared-back}
 use Rattle.bench.proofs.Laws.Breaks.{parts}
@@ -62,12 +63,12 @@ use Rattle.parts.proofs.frame.Dispatch.Laws as D′
 use Rattle.station.proofs.station.Station as T
 use Rattle.station.proofs.station.Turn as Tn
 use Rattle.station.proofs.station.Turn.Laws as Tn′
-use Rattle.station.proofs.rules.light.Light as Lt
-use Rattle.station.proofs.rules.light.Light.Laws as Lt′
-use Rattle.bench.proofs.table.light_at as light
-use Rattle.bench.proofs.table.light_at.Symbol as light-def
-use Rattle.bench.proofs.table.light_at.Symbol.{name as #light}
-use Rattle.bench.proofs.table.light_at.Met as light-thm
+use Rattle.station.proofs.rules.deeds.Turned as Lt
+use Rattle.station.proofs.rules.deeds.Turned.Laws as Lt′
+use Rattle.bench.proofs.table.turned_at as turned
+use Rattle.bench.proofs.table.turned_at.Symbol as turned-def
+use Rattle.bench.proofs.table.turned_at.Symbol.{name as #turned}
+use Rattle.bench.proofs.table.turned_at.Met as turned-thm
 use Rattle.bench.proofs.table.turn_at as turn
 use Rattle.bench.proofs.table.turn_at.Symbol as turn-def
 use Rattle.bench.proofs.table.turn_at.Symbol.{name as #turn}
@@ -94,7 +95,7 @@ valD = EL.val D.the-type D′.the-laws
 abbrev valT : Turn → Val
 valT = LL.val Tn.the-type Tn′.the-laws
 
-abbrev valL : Light → Val
+abbrev valL : Turned → Val
 valL = LL.val Lt.the-type Lt′.the-laws
 
 -- what the contract says, and `step_at`'s
@@ -102,16 +103,16 @@ abbrev Said : List Station → ℕ → Frame → ℕ → ℕ → Dispatch → Li
 Said ys i f from to r zs = (r ≡ frameRule (getD ys i nobody) f from to .sent) × (zs ≡ set ys i (frameRule (getD ys i nobody) f from to .station))
 
 -- a frame that changes the turn alone
-lightly-said : (ys : List Station) (i : ℕ) (f : Frame) (from to : ℕ) (l : Light) (zs : List Station) → l ≡ lightRule (getD ys i nobody) f from to → l .ok ≡ true → zs ≡ set ys i (withTurn (getD ys i nobody) (l .turn)) → Said ys i f from to (l .sent) zs
-lightly-said ys i f from to l zs e ok z =
+turned-said : (ys : List Station) (i : ℕ) (f : Frame) (from to : ℕ) (l : Turned) (zs : List Station) → l ≡ turnedBy (getD ys i nobody) f from to → l .alone ≡ true → zs ≡ set ys i (withTurn (getD ys i nobody) (l .turn)) → Said ys i f from to (l .sent) zs
+turned-said ys i f from to l zs e alone z =
     let s : Station = getD ys i nobody in
-    let rule : frameRule s f from to ≡ turnAlone s (lightRule s f from to) = lightly-hears s f from to (ap (λ (y : Light). y .ok) (sym e) ∙ ok) in
-    (ap (λ (y : Light). y .sent) e ∙ ap (λ (a : Answer). a .sent) (sym rule), z ∙ ap (λ (y : Light). set ys i (withTurn s (y .turn))) e ∙ ap (λ (a : Answer). set ys i (a .station)) (sym rule))
+    let rule : frameRule s f from to ≡ turnAlone s (decided s f from to) = turned-hears s f from to (ap (λ (y : Turned). y .alone) (sym e) ∙ alone) in
+    (ap (λ (y : Turned). y .sent) e ∙ ap (λ (a : Answer). a .sent) (sym rule), z ∙ ap (λ (y : Turned). set ys i (withTurn s (y .turn))) e ∙ ap (λ (a : Answer). set ys i (a .station)) (sym rule))
 
 module _ {M : Type 1} (𝓤 : URA M) (H : Heap 𝓤) (A : Atoms 𝓤) (mem : Memory → SProp 𝓤) (run : Routine → Fun 𝓤) where
   -- the contracts that the walk cites
-  abbrev Light-at : Contract 𝓤
-  Light-at = tripleOf 𝓤 H A light.signature (light.spec 𝓤 H A mem run)
+  abbrev Turned-at : Contract 𝓤
+  Turned-at = tripleOf 𝓤 H A turned.signature (turned.spec 𝓤 H A mem run)
 
   abbrev Turn-at : Contract 𝓤
   Turn-at = tripleOf 𝓤 H A turn.signature (turn.spec 𝓤 H A mem run)
@@ -119,8 +120,8 @@ module _ {M : Type 1} (𝓤 : URA M) (H : Heap 𝓤) (A : Atoms 𝓤) (mem : Mem
   abbrev Step-at : Contract 𝓤
   Step-at = tripleOf 𝓤 H A step.signature (step.spec 𝓤 H A mem run)
 
-  said-light : (κ : Lft) (x : RefT (List Station)) (i : ℕ) (f : Frame) (from to : ℕ) (l : Light) → ent 𝓤 (ensured 𝓤 H A light.ended (light.clauses 𝓤 H A mem run) (κ, tt) (x, (i, (f, (from, (to, tt))))) tt l) (fact 𝓤 (l ≡ lightRule (getD (x .now) i nobody) f from to))
-  said-light κ x i f from to l = exE 𝓤 _ (λ ws. snd∗ 𝓤 (sem 𝓤 H A (lasts light.ended (κ, tt) (x, (i, (f, (from, (to, tt))))) ws)) (fact 𝓤 (l ≡ lightRule (getD (x .now) i nobody) f from to)))
+  said-turned : (κ : Lft) (x : RefT (List Station)) (i : ℕ) (f : Frame) (from to : ℕ) (l : Turned) → ent 𝓤 (ensured 𝓤 H A turned.ended (turned.clauses 𝓤 H A mem run) (κ, tt) (x, (i, (f, (from, (to, tt))))) tt l) (fact 𝓤 (l ≡ turnedBy (getD (x .now) i nobody) f from to))
+  said-turned κ x i f from to l = exE 𝓤 _ (λ ws. snd∗ 𝓤 (sem 𝓤 H A (lasts turned.ended (κ, tt) (x, (i, (f, (from, (to, tt))))) ws)) (fact 𝓤 (l ≡ turnedBy (getD (x .now) i nobody) f from to)))
 
 module _ {M : Type 1} (𝓤 : URA M) (H : Heap 𝓤) (A : Atoms 𝓤) (W : Given 𝓤 H A) (mem : Memory → SProp 𝓤) (run : Routine → Fun 𝓤) (κ : Lft) (q : Share) (b o : ℕ) (γ : GName) (ys : List Station) (i : ℕ) (f : Frame) (from₀ to₀ : ℕ)
     (i-is : Is usize i (vint w64 i ∷ [])) (f-is : Is Fr.the-row f (valF f ∷ [])) (from-is : Is u8 from₀ (vint w8 from₀ ∷ [])) (to-is : Is u8 to₀ (vint w8 to₀ ∷ [])) (room : Room T.the-row (length ys)) (within : i < length ys) where
@@ -144,11 +145,11 @@ module _ {M : Type 1} (𝓤 : URA M) (H : Heap 𝓤) (A : Atoms 𝓤) (W : Given
   Post = walkOf 𝓤 H A self.ended stayed (self.clauses 𝓤 H A mem run) .post (((κ, tt), (q, tt), tt, a γ, at), tt)
 
   -- what each callee's triple binds outside, and that the caller has what it asks
-  abbrev to-light : ℕ → GName → Light-at 𝓤 H A mem run .Ghost
-  to-light ν δ = (((ν ∷ [], tt), (fullShare, tt), tt, a δ, at), tt)
+  abbrev to-turned : ℕ → GName → Turned-at 𝓤 H A mem run .Ghost
+  to-turned ν δ = (((ν ∷ [], tt), (fullShare, tt), tt, a δ, at), tt)
 
-  goes-light : (ν : ℕ) (δ : GName) → ent 𝓤 (sep 𝓤 (A .lft (ν ∷ []) fullShare) (sem 𝓤 H A (ShrSlice (named 0) (ν ∷ []) T.the-row .own (x δ) (s ∷ [])))) (Light-at 𝓤 H A mem run .pre (to-light ν δ))
-  goes-light ν δ =
+  goes-turned : (ν : ℕ) (δ : GName) → ent 𝓤 (sep 𝓤 (A .lft (ν ∷ []) fullShare) (sem 𝓤 H A (ShrSlice (named 0) (ν ∷ []) T.the-row .own (x δ) (s ∷ [])))) (Turned-at 𝓤 H A mem run .pre (to-turned ν δ))
+  goes-turned ν δ =
       qed W (‵ (flft (ν ∷ []) fullShare) ∷ ‵ (ShrSlice (named 0) (ν ∷ []) T.the-row .own (x δ) (s ∷ [])) ∷ []) ∵ says ! within $ nothing ! $ move ! (1 ∷ 0 ∷ []) $ join ! $ frame ! $
       nothing ! $ owned ! u8 (Is u8) (uint-makes 𝓤 H A W w8) to₀ _ to-is $ fjoin ! $ owned ! u8 (Is u8) (uint-makes 𝓤 H A W w8) from₀ _ from-is $ fjoin ! $
       owned ! Fr.the-row (Is Fr.the-row) (EL.makes Fr.the-type Fr′.the-plain 𝓤 H A) f _ f-is $ fjoin ! $ owned ! usize (Is usize) (uint-makes 𝓤 H A W w64) i _ i-is $ fjoin ! $ move ! (1 ∷ 0 ∷ []) $ fjoin ! $ done !
@@ -178,7 +179,7 @@ module _ {M : Type 1} (𝓤 : URA M) (H : Heap 𝓤) (A : Atoms 𝓤) (W : Given
       nothing ! $ owned ! u8 (Is u8) (uint-makes 𝓤 H A W w8) to₀ _ to-is $ fjoin ! $ owned ! u8 (Is u8) (uint-makes 𝓤 H A W w8) from₀ _ from-is $ fjoin ! $
       owned ! Fr.the-row (Is Fr.the-row) (EL.makes Fr.the-type Fr′.the-plain 𝓤 H A) f _ f-is $ fjoin ! $ owned ! usize (Is usize) (uint-makes 𝓤 H A W w64) i _ i-is $ fjoin ! $ move ! (2 ∷ 0 ∷ []) $ fjoin ! $ frame ! $ done !
 
-  module _ (C : Calls 𝓤 H) (Λ : Loops 𝓤 H) (fm : FmC 𝓤 H (W .laws) C) (light-known : Triple 𝓤 (C #light) (Light-at 𝓤 H A mem run)) (turn-known : Triple 𝓤 (C #turn) (Turn-at 𝓤 H A mem run)) (step-known : Triple 𝓤 (C #step) (Step-at 𝓤 H A mem run)) where
+  module _ (C : Calls 𝓤 H) (Λ : Loops 𝓤 H) (fm : FmC 𝓤 H (W .laws) C) (turned-known : Triple 𝓤 (C #turned) (Turned-at 𝓤 H A mem run)) (turn-known : Triple 𝓤 (C #turn) (Turn-at 𝓤 H A mem run)) (step-known : Triple 𝓤 (C #step) (Step-at 𝓤 H A mem run)) where
     walk : ent 𝓤 (onEntry 𝓤 H A self.signature (κ, tt) (q, tt) (a γ) at) (WpFn 𝓤 H C Λ code.function (s ∷ vint w64 i ∷ valF f ∷ vint w8 from₀ ∷ vint w8 to₀ ∷ []) Post)
     walk =
         qed W ((‵ (flft κ q) ⊛ ‵ ftrue) ∷ ‵ (owns (MutSlice (named 0) κ T.the-row ∷ usize ∷ Fr.the-row ∷ u8 ∷ u8 ∷ []) (a γ) at) ∷ []) ∵ enter ! C Λ code.function (s ∷ vint w64 i ∷ valF f ∷ vint w8 from₀ ∷ vint w8 to₀ ∷ []) _ $
@@ -188,13 +189,13 @@ module _ {M : Type 1} (𝓤 : URA M) (H : Heap 𝓤) (A : Atoms 𝓤) (W : Given
         move ! (31 ∷ []) $ fsplit ! $ move ! (32 ∷ []) $ split ! $ keep ! (2 ∷ 0 ∷ 4 ∷ 5 ∷ 6 ∷ 7 ∷ 8 ∷ 9 ∷ 10 ∷ 11 ∷ 12 ∷ 13 ∷ 14 ∷ 15 ∷ 16 ∷ 17 ∷ 18 ∷ 19 ∷ 20 ∷ 21 ∷ 22 ∷ 23 ∷ 24 ∷ 25 ∷ 26 ∷ 27 ∷ 28 ∷ 29 ∷ 30 ∷ 31 ∷ 32 ∷ 33 ∷ []) $
         assigns ! (addr ! (from ! (fld ! refl (hop ! (look-in ! 28 (sub ! 0 refl (whole !))) (stop !))))) (from ! (stop !)) (init ! 16 refl (tt, tt)) $
         assigns ! (agg ! (and-then ! (load ! (from ! (stop !)) (look ! 16 refl)) (and-then ! (load ! (from ! (fld ! {τ = tyInt w64} {d = 8} refl (stop !))) (look-in ! 28 {τ = tyInt w64} (sub ! 1 {τ = tyInt w64} {d = 8} refl (whole !)))) (no-more !)))) (from ! (stop !)) (init ! 14 refl (tt, (tt, (record { fits = room .0 }, tt)))) $
-        -- the slice is lent as a shared one to `light_at`
+        -- the slice is lent as a shared one to `turned_at`
         lft-new ! tt (λ ν. move ! (1 ∷ 2 ∷ []) $
         use2 W (later (some (λ (δ : GName). ‵ (ShrSlice (named 0) (ν ∷ []) T.the-row .own (x δ) (s ∷ [])) ⊛ ‵ (LentShared T.the-row κ (ν ∷ []) q γ b o ys)))) (lends-shared T.the-row κ (ν ∷ []) q γ b o 𝓤 H A W (named 0) (named 0) ys) $ await ! tt $ pick ! (λ δ. split ! $
-        move ! (2 ∷ 0 ∷ []) $ use2 W (raw (Light-at 𝓤 H A mem run .pre (to-light ν δ))) (goes-light ν δ) $
-        calls-at ! fm (Light-at 𝓤 H A mem run) light-known (to-light ν δ) (and-then ! (load ! (from ! (stop !)) (look ! 14 refl)) (and-then ! (load ! (from ! (stop !)) (look ! 26 refl)) (and-then ! (load ! (from ! (stop !)) (look ! 24 refl)) (and-then ! (load ! (from ! (stop !)) (look ! 22 refl)) (and-then ! (load ! (from ! (stop !)) (look ! 20 refl)) (no-more !)))))) (λ w.
-        use1 W (later (some (λ (l : Light). ((‵ (flft (ν ∷ []) fullShare) ⊛ ‵ ftrue) ⊛ ‵ (Lt.the-row .own l (w ∷ []))) ⊛ raw (ensured 𝓤 H A light.ended (light.clauses 𝓤 H A mem run) (ν ∷ [], tt) (a δ) tt l)))) (id⊢ 𝓤 _) $ await ! tt $ pick ! (λ l.
-        split ! $ move ! (1 ∷ []) $ use1 W (raw (fact 𝓤 (l ≡ lightRule (getD ys i nobody) f from₀ to₀))) (said-light 𝓤 H A mem run (ν ∷ []) (x δ) i f from₀ to₀ l) $ heard ! (l ≡ lightRule (getD ys i nobody) f from₀ to₀) (λ e.
+        move ! (2 ∷ 0 ∷ []) $ use2 W (raw (Turned-at 𝓤 H A mem run .pre (to-turned ν δ))) (goes-turned ν δ) $
+        calls-at ! fm (Turned-at 𝓤 H A mem run) turned-known (to-turned ν δ) (and-then ! (load ! (from ! (stop !)) (look ! 14 refl)) (and-then ! (load ! (from ! (stop !)) (look ! 26 refl)) (and-then ! (load ! (from ! (stop !)) (look ! 24 refl)) (and-then ! (load ! (from ! (stop !)) (look ! 22 refl)) (and-then ! (load ! (from ! (stop !)) (look ! 20 refl)) (no-more !)))))) (λ w.
+        use1 W (later (some (λ (l : Turned). ((‵ (flft (ν ∷ []) fullShare) ⊛ ‵ ftrue) ⊛ ‵ (Lt.the-row .own l (w ∷ []))) ⊛ raw (ensured 𝓤 H A turned.ended (turned.clauses 𝓤 H A mem run) (ν ∷ [], tt) (a δ) tt l)))) (id⊢ 𝓤 _) $ await ! tt $ pick ! (λ l.
+        split ! $ move ! (1 ∷ []) $ use1 W (raw (fact 𝓤 (l ≡ turnedBy (getD ys i nobody) f from₀ to₀))) (said-turned 𝓤 H A mem run (ν ∷ []) (x δ) i f from₀ to₀ l) $ heard ! (l ≡ turnedBy (getD ys i nobody) f from₀ to₀) (λ e.
         split ! $ move ! (1 ∷ []) $ peeks ! Lt.the-row (Is Lt.the-row) (shows 𝓤 H A Lt.the-row) l (w ∷ []) (λ is.
         let fields = LL.owed Lt.the-type Lt′.the-laws l _ is in
         land ! (from ! (stop !)) (init ! 19 refl (LL.lawful Lt.the-type Lt′.the-laws 𝓤 H A W .typed l _ is .0)) $ rewrite ! 19 (λ (u : Val). ‵ (fat fullShare Lt′.mir l₆ 0 u)) (ap only (LL.tells Lt.the-type Lt′.the-laws l _ is)) refl $
@@ -202,7 +203,7 @@ module _ {M : Type 1} (𝓤 : URA M) (H : Heap 𝓤) (A : Atoms 𝓤) (W : Given
         drop ! $ split ! $ lft-end ! tt $ move ! (0 ∷ 2 ∷ []) $
         use2 W (later (‵ (MutSlice (named 0) κ T.the-row .own (x γ) (s ∷ [])) ⊛ ‵ (flft κ q))) (shared-back T.the-row κ (ν ∷ []) q γ b o 𝓤 H A W (named 0) (named 0) ys room) $ await ! tt $ split ! $ move ! (2 ∷ []) $ drop ! $
         -- [the slice; the token; room for _14; …; _0; …]
-        assigns ! (of-opd ! (load ! (from ! (fld ! {τ = tyBool} {d = offset Lt.the-type 0} refl (stop !))) (look-in ! 18 {τ = tyBool} (sub ! {τs = fieldTypes Lt.the-type} 0 {τ = tyBool} {d = offset Lt.the-type 0} refl (whole !))))) (from ! (stop !)) (init ! 12 refl (bool-lawful 𝓤 H A W .typed (l .ok) _ (fields .0) .0)) $
+        assigns ! (of-opd ! (load ! (from ! (fld ! {τ = tyBool} {d = offset Lt.the-type 0} refl (stop !))) (look-in ! 18 {τ = tyBool} (sub ! {τs = fieldTypes Lt.the-type} 0 {τ = tyBool} {d = offset Lt.the-type 0} refl (whole !))))) (from ! (stop !)) (init ! 12 refl (bool-lawful 𝓤 H A W .typed (l .alone) _ (fields .0) .0)) $
         parts ! (load ! (from ! (stop !)) (look ! 12 refl))
         -- the turn alone changes: the slice goes to `turn_at`
         (λ ok. assigns ! (addr ! (from ! (fld ! refl (hop ! (look-in ! 28 (sub ! 0 refl (whole !))) (stop !))))) (from ! (stop !)) (init ! 8 refl (tt, tt)) $
@@ -218,7 +219,7 @@ module _ {M : Type 1} (𝓤 : URA M) (H : Heap 𝓤) (A : Atoms 𝓤) (W : Given
         assigns ! (of-opd ! (load ! (from ! (fld ! {τ = D′.mir} {d = offset Lt.the-type 2} refl (stop !))) (look-in ! 19 {τ = D′.mir} (sub ! {τs = fieldTypes Lt.the-type} 2 {τ = D′.mir} {d = offset Lt.the-type 2} refl (whole !))))) (from ! (stop !)) (init ! 31 refl (EL.lawful D.the-type D′.the-laws 𝓤 H A W tt .typed (l .sent) _ (fields .1 .1 .0) .0)) $
         returns-within ! Post refl (look ! 31 refl) $ forget ! 7 refl $ forget ! 9 refl $ forget ! 11 refl $ forget ! 13 refl $ forget ! 15 refl $ forget ! 17 refl $ forget ! 19 refl $ forget ! 21 refl $ forget ! 23 refl $ forget ! 25 refl $ forget ! 27 refl $ forget ! 29 refl $ forget ! 31 refl $
         move ! (31 ∷ 32 ∷ []) $ free1 ! $ move ! (29 ∷ 30 ∷ []) $ free1 ! $ move ! (27 ∷ 28 ∷ []) $ free1 ! $ move ! (25 ∷ 26 ∷ []) $ free1 ! $ move ! (23 ∷ 24 ∷ []) $ free1 ! $ move ! (21 ∷ 22 ∷ []) $ free1 ! $ move ! (19 ∷ 20 ∷ []) $ free1 ! $ move ! (17 ∷ 18 ∷ []) $ free1 ! $ move ! (15 ∷ 16 ∷ []) $ free1 ! $ move ! (13 ∷ 14 ∷ []) $ free1 ! $ move ! (11 ∷ 12 ∷ []) $ free1 ! $ move ! (9 ∷ 10 ∷ []) $ free1 ! $ move ! (7 ∷ 8 ∷ []) $ free1 ! $ move ! (5 ∷ 6 ∷ []) $ free1 ! $ move ! (3 ∷ 4 ∷ []) $ free1 ! $ free0 ! $
-        owned ! D.the-row (Is D.the-row) (EL.makes D.the-type D′.the-plain 𝓤 H A) (l .sent) _ (fields .1 .1 .0) $ keep ! (0 ∷ 1 ∷ 2 ∷ []) $ by ! (exits (l .sent) (valD (l .sent)) (zs .0) (lightly-said ys i f from₀ to₀ l (zs .0) e ok z) lz))))))))
+        owned ! D.the-row (Is D.the-row) (EL.makes D.the-type D′.the-plain 𝓤 H A) (l .sent) _ (fields .1 .1 .0) $ keep ! (0 ∷ 1 ∷ 2 ∷ []) $ by ! (exits (l .sent) (valD (l .sent)) (zs .0) (turned-said ys i f from₀ to₀ l (zs .0) e ok z) lz))))))))
         -- else it goes to `step_at`
         (λ _. assigns ! (addr ! (from ! (fld ! refl (hop ! (look-in ! 28 (sub ! 0 refl (whole !))) (stop !))))) (from ! (stop !)) (init ! 4 refl (tt, tt)) $
         assigns ! (agg ! (and-then ! (load ! (from ! (stop !)) (look ! 4 refl)) (and-then ! (load ! (from ! (fld ! {τ = tyInt w64} {d = 8} refl (stop !))) (look-in ! 28 {τ = tyInt w64} (sub ! 1 {τ = tyInt w64} {d = 8} refl (whole !)))) (no-more !)))) (from ! (stop !)) (init ! 2 refl (tt, (tt, (record { fits = room .0 }, tt)))) $
@@ -235,18 +236,18 @@ module _ {M : Type 1} (𝓤 : URA M) (H : Heap 𝓤) (A : Atoms 𝓤) (W : Given
         keep ! (0 ∷ 1 ∷ 2 ∷ []) $ by ! (exits r w₁ (zs .0) said lz)))))))))))))))))))))))))))))
 
 module _ {M : Type 1} (𝓤 : URA M) (H : Heap 𝓤) (A : Atoms 𝓤) (W : Given 𝓤 H A) (mem : Memory → SProp 𝓤) (run : Routine → Fun 𝓤) where
-  walks : (C : Calls 𝓤 H) (Λ : Loops 𝓤 H) → FmC 𝓤 H (W .laws) C → Triple 𝓤 (C #light) (Light-at 𝓤 H A mem run) → Triple 𝓤 (C #turn) (Turn-at 𝓤 H A mem run) → Triple 𝓤 (C #step) (Step-at 𝓤 H A mem run)
+  walks : (C : Calls 𝓤 H) (Λ : Loops 𝓤 H) → FmC 𝓤 H (W .laws) C → Triple 𝓤 (C #turned) (Turned-at 𝓤 H A mem run) → Triple 𝓤 (C #turn) (Turn-at 𝓤 H A mem run) → Triple 𝓤 (C #step) (Step-at 𝓤 H A mem run)
       → Walks 𝓤 H A self.ended stayed (WpFn 𝓤 H C Λ code.function) (self.clauses 𝓤 H A mem run)
-  walks C Λ fm light-known turn-known step-known =
+  walks C Λ fm turned-known turn-known step-known =
       walked 𝓤 H A self.ended stayed (self.clauses 𝓤 H A mem run) (WpFn 𝓤 H C Λ code.function) (λ κs. (slice-vals, (uint-vals w64, (EL.vals Fr.the-type Fr′.the-laws, (uint-vals w8, (uint-vals w8, tt)))))) (λ κs. (mut-slice-tells (named 0) (κs .0) T.the-row, (uint-tells w64, (EL.tells Fr.the-type Fr′.the-laws, (uint-tells w8, (uint-tells w8, tt))))))
       (λ κs qs bounds a g are. needs 𝓤 (a .1 .0 < length (a .0 .now)) _ (λ within. walk 𝓤 H A W mem run (κs .0) (qs .0) (a .0 .ptr .0) (a .0 .ptr .1) (a .0 .name) (a .0 .now) (a .1 .0) (a .1 .1 .0) (a .1 .1 .1 .0) (a .1 .1 .1 .1 .0)
-      (are .1 .0) (are .1 .1 .0) (are .1 .1 .1 .0) (are .1 .1 .1 .1 .0) (are .0 .0 .1) within C Λ fm light-known turn-known step-known))
+      (are .1 .0) (are .1 .1 .0) (are .1 .1 .1 .0) (are .1 .1 .1 .1 .0) (are .0 .0 .1) within C Λ fm turned-known turn-known step-known))
 
-meets : {M : Type 1} (𝓤 : URA M) (H : Heap 𝓤) (A : Atoms 𝓤) → Given 𝓤 H A → (mem : Memory → SProp 𝓤) (run : Routine → Fun 𝓤) (𝓣 : Tables 𝓤 H) → Triple 𝓤 (𝓣 .C #light) (Light-at 𝓤 H A mem run) → Triple 𝓤 (𝓣 .C #turn) (Turn-at 𝓤 H A mem run) → Triple 𝓤 (𝓣 .C #step) (Step-at 𝓤 H A mem run)
+meets : {M : Type 1} (𝓤 : URA M) (H : Heap 𝓤) (A : Atoms 𝓤) → Given 𝓤 H A → (mem : Memory → SProp 𝓤) (run : Routine → Fun 𝓤) (𝓣 : Tables 𝓤 H) → Triple 𝓤 (𝓣 .C #turned) (Turned-at 𝓤 H A mem run) → Triple 𝓤 (𝓣 .C #turn) (Turn-at 𝓤 H A mem run) → Triple 𝓤 (𝓣 .C #step) (Step-at 𝓤 H A mem run)
     → Meets 𝓤 H A self.signature (WpFn 𝓤 H (𝓣 .C) (𝓣 .Λ) code.function) (self.spec 𝓤 H A mem run)
-meets 𝓤 H A W mem run 𝓣 light-known turn-known step-known =
+meets 𝓤 H A W mem run 𝓣 turned-known turn-known step-known =
     walk-meets 𝓤 H A self.ended stayed W (goes-gave-slice 𝓤 H A W 1 0 tt (plain (λ _. T.the-row)), (goes-none 𝓤 H A W 1 (λ _. usize) yes (λ κs x f. refl), (goes-none 𝓤 H A W 1 (λ _. Fr.the-row) yes (λ κs x f. refl), (goes-none 𝓤 H A W 1 (λ _. u8) yes (λ κs x f. refl), (goes-none 𝓤 H A W 1 (λ _. u8) yes (λ κs x f. refl), tt))))) (self.clauses 𝓤 H A mem run)
-    (WpFn 𝓤 H (𝓣 .C) (𝓣 .Λ) code.function) (WpFn-mono 𝓤 H (W .laws) 𝓣 code.function) (walks 𝓤 H A W mem run (𝓣 .C) (𝓣 .Λ) (fmOf 𝓤 H (W .laws) 𝓣) light-known turn-known step-known)
+    (WpFn 𝓤 H (𝓣 .C) (𝓣 .Λ) code.function) (WpFn-mono 𝓤 H (W .laws) 𝓣 code.function) (walks 𝓤 H A W mem run (𝓣 .C) (𝓣 .Λ) (fmOf 𝓤 H (W .laws) 𝓣) turned-known turn-known step-known)
 
 pub hear-at-spec : {M : Type 1} → stated.statement M
 unfolding code.routine tablesOf
@@ -254,6 +255,6 @@ hear-at-spec 𝓤 H 𝓜 𝓖 𝓡 =
     entered 𝓤 H (tripleOf 𝓤 H (𝓖 .A) self.signature (self.spec 𝓤 H (𝓖 .A) (𝓜 .mem) (𝓡 .run)))
     (tables 𝓤 H 𝓜 𝓡 code.env .C) (tables 𝓤 H 𝓜 𝓡 code.env .Λ) #self code.function (code.unfolded 𝓤 H 𝓜 𝓡)
     (meets 𝓤 H (𝓖 .A) (givenOf 𝓤 H 𝓜 𝓖) (𝓜 .mem) (𝓡 .run) (tablesOf 𝓤 H 𝓜 (tables 𝓤 H 𝓜 𝓡 code.env))
-    (cited 𝓤 H (Light-at 𝓤 H (𝓖 .A) (𝓜 .mem) (𝓡 .run)) 𝓜 𝓡 code.env #light light-def.routine code.calls-bench·table·light-at (light-thm.met 𝓤 H 𝓜 𝓖 𝓡))
+    (cited 𝓤 H (Turned-at 𝓤 H (𝓖 .A) (𝓜 .mem) (𝓡 .run)) 𝓜 𝓡 code.env #turned turned-def.routine code.calls-bench·table·turned-at (turned-thm.met 𝓤 H 𝓜 𝓖 𝓡))
     (cited 𝓤 H (Turn-at 𝓤 H (𝓖 .A) (𝓜 .mem) (𝓡 .run)) 𝓜 𝓡 code.env #turn turn-def.routine code.calls-bench·table·turn-at (turn-thm.met 𝓤 H 𝓜 𝓖 𝓡))
     (cited 𝓤 H (Step-at 𝓤 H (𝓖 .A) (𝓜 .mem) (𝓡 .run)) 𝓜 𝓡 code.env #step step-def.routine code.calls-bench·table·step-at (step-thm.met 𝓤 H 𝓜 𝓖 𝓡)))

@@ -10,11 +10,11 @@ returns c = simp (eq-eqb _ _ (c .if1 .taken))
 
 returns-2 : tie.Need-returns-2
 unfolding pick
-returns-2 c = simp (ne-eqb _ _ (c .before .if1 .left), le-leb _ _ (c .if2 .taken))
+returns-2 c = simp (ne-eqb _ _ (c .before .before .if1 .left), le-leb _ _ (c .if2 .taken))
 
 returns-3 : tie.Need-returns-3
 unfolding pick
-returns-3 c = simp (ne-eqb _ _ (c .before .if1 .left), lt-leb _ _ (c .if2 .left))
+returns-3 c = simp (ne-eqb _ _ (c .before .before .before .if1 .left), lt-leb _ _ (c .before .if2 .left))
 
 pub fit-transmit-spec : {M : Type 1} → statement M
 fit-transmit-spec = tie.close (tie.spec returns returns-2 returns-3)

@@ -20,8 +20,14 @@ in-flight-requires-2 c κs = search needs
 enum-known-w-3 : tie.Need-enum-known-w-3
 enum-known-w-3 c = search needs
 
+in-flight-requires-3 : tie.Need-in-flight-requires-3
+in-flight-requires-3 c κs = search needs
+
 enum-known-w-4 : tie.Need-enum-known-w-4
 enum-known-w-4 c = search needs
+
+enum-known-w-5 : tie.Need-enum-known-w-5
+enum-known-w-5 c = search needs
 
 cast-result : tie.Need-cast-result
 cast-result c = search needs
@@ -40,11 +46,19 @@ returns-3 c = rw (c .before .before .before .before .w2 .given .1, sym (c .befor
 
 returns-4 : tie.Need-returns-4
 unfolding fits
-returns-4 c = rw (c .before .before .w3 .given .1)
+returns-4 c = rw (c .before .before .before .w3 .given .1, sym (c .before .in-flight3 .ensures) ∙ c .if2 .taken)
 
 returns-5 : tie.Need-returns-5
 unfolding fits
-returns-5 c = rw (c .before .before .w4 .given .1)
+returns-5 c = rw (c .before .before .before .before .w3 .given .1, sym (c .before .before .in-flight3 .ensures) ∙ c .before .if2 .left)
+
+returns-6 : tie.Need-returns-6
+unfolding fits
+returns-6 c = rw (c .before .before .w4 .given .1)
+
+returns-7 : tie.Need-returns-7
+unfolding fits
+returns-7 c = rw (c .before .before .w5 .given .1)
 
 pub suits-spec : {M : Type 1} → statement M
 suits-spec =
@@ -55,10 +69,14 @@ suits-spec =
     enum-known-w-2
     in-flight-requires-2
     enum-known-w-3
+    in-flight-requires-3
     enum-known-w-4
+    enum-known-w-5
     cast-result
     returns
     returns-2
     returns-3
     returns-4
-    returns-5)
+    returns-5
+    returns-6
+    returns-7)

@@ -6,6 +6,9 @@ use borrow.Author.Needs.{needs}
 use Rattle.plain_rules.proofs.round.pass_on.Statement.{statement}
 use Rattle.plain_rules.proofs.round.pass_on.Tie as tie
 
+cast-is-live : tie.Need-cast-is-live
+cast-is-live c = search needs
+
 is-live-requires : tie.Need-is-live-requires
 is-live-requires c κs = search needs
 
@@ -33,6 +36,7 @@ pub pass-on-spec : {M : Type 1} → statement M
 pass-on-spec =
     tie.close
     (tie.spec
+    cast-is-live
     is-live-requires
     clear-bid-requires
     raise-bid-requires

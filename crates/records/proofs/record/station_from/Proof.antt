@@ -16,35 +16,26 @@ messages-at-requires-2 c κs = (search needs, receives-rest _ (c .before .before
 turn-at-requires : tie.Need-turn-at-requires
 turn-at-requires c κs = search needs
 
-cast-t7 : tie.Need-cast-t7
-cast-t7 c = search needs
+counts-at-requires : tie.Need-counts-at-requires
+counts-at-requires c κs = search needs
+
+cast-t8 : tie.Need-cast-t8
+cast-t8 c = search needs
 
 bits-requires : tie.Need-bits-requires
 bits-requires c κs = search needs
 
-cast-t9 : tie.Need-cast-t9
-cast-t9 c = search needs
+cast-t10 : tie.Need-cast-t10
+cast-t10 c = search needs
 
 get-requires : tie.Need-get-requires
 get-requires c κs = search needs
 
-cast-t11 : tie.Need-cast-t11
-cast-t11 c = search needs
-
-get-requires-2 : tie.Need-get-requires-2
-get-requires-2 c κs = search needs
-
-cast-t13 : tie.Need-cast-t13
-cast-t13 c = search needs
-
-get-requires-3 : tie.Need-get-requires-3
-get-requires-3 c κs = search needs
-
-cast-t15 : tie.Need-cast-t15
-cast-t15 c = search needs
+cast-t12 : tie.Need-cast-t12
+cast-t12 c = search needs
 
 returns : tie.Need-returns
-returns c = rw (c .before .before .before .before .before .before .before .live-from .ensures, c .before .before .before .before .before .before .messages-at .ensures, c .before .before .before .before .before .messages-at2 .ensures, c .before .before .before .before .turn-at .ensures, c .before .before .before .bits .ensures .0, c .before .before .get .ensures .0, c .before .get2 .ensures .0, c .get3 .ensures .0)
+returns c = rw (c .before .before .before .before .before .before .live-from .ensures, c .before .before .before .before .before .messages-at .ensures, c .before .before .before .before .messages-at2 .ensures, c .before .before .before .turn-at .ensures, c .before .before .counts-at .ensures, c .before .bits .ensures .0, c .get .ensures .0)
 
 pub station-from-spec : {M : Type 1} → statement M
 station-from-spec =
@@ -54,13 +45,10 @@ station-from-spec =
     messages-at-requires
     messages-at-requires-2
     turn-at-requires
-    cast-t7
+    counts-at-requires
+    cast-t8
     bits-requires
-    cast-t9
+    cast-t10
     get-requires
-    cast-t11
-    get-requires-2
-    cast-t13
-    get-requires-3
-    cast-t15
+    cast-t12
     returns)

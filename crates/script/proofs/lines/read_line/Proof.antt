@@ -25,8 +25,8 @@ slice-aggregate-is-word-2 c = search needs
 is-word-requires : tie.Need-is-word-requires
 is-word-requires c κs = search needs
 
-element-copy-out-t18 : tie.Need-element-copy-out-t18
-element-copy-out-t18 c = search needs
+element-copy-out-t19 : tie.Need-element-copy-out-t19
+element-copy-out-t19 c = search needs
 
 returns-2 : tie.Need-returns-2
 returns-2 c =
@@ -41,8 +41,8 @@ slice-aggregate-is-word-4 c = search needs
 is-word-requires-2 : tie.Need-is-word-requires-2
 is-word-requires-2 c κs = search needs
 
-element-copy-out-t26 : tie.Need-element-copy-out-t26
-element-copy-out-t26 c = search needs
+element-copy-out-t27 : tie.Need-element-copy-out-t27
+element-copy-out-t27 c = search needs
 
 returns-3 : tie.Need-returns-3
 returns-3 c =
@@ -63,20 +63,20 @@ slice-aggregate-is-word-6 c = search needs
 is-word-requires-3 : tie.Need-is-word-requires-3
 is-word-requires-3 c κs = search needs
 
-element-copy-out-t34 : tie.Need-element-copy-out-t34
-element-copy-out-t34 c = search needs
+element-copy-out-t35 : tie.Need-element-copy-out-t35
+element-copy-out-t35 c = search needs
 
-element-copy-out-t37 : tie.Need-element-copy-out-t37
-element-copy-out-t37 c = search needs
+element-copy-out-t38 : tie.Need-element-copy-out-t38
+element-copy-out-t38 c = search needs
 
-element-copy-out-t40 : tie.Need-element-copy-out-t40
-element-copy-out-t40 c = search needs
+element-copy-out-t41 : tie.Need-element-copy-out-t41
+element-copy-out-t41 c = search needs
 
-element-copy-out-t43 : tie.Need-element-copy-out-t43
-element-copy-out-t43 c = search needs
+element-copy-out-t44 : tie.Need-element-copy-out-t44
+element-copy-out-t44 c = search needs
 
-element-copy-out-t46 : tie.Need-element-copy-out-t46
-element-copy-out-t46 c = search needs
+element-copy-out-t35-2 : tie.Need-element-copy-out-t35-2
+element-copy-out-t35-2 c = search needs
 
 returns-5 : tie.Need-returns-5
 returns-5 c =
@@ -100,22 +100,22 @@ read-line-spec =
     slice-aggregate-is-word
     slice-aggregate-is-word-2
     is-word-requires
-    element-copy-out-t18
+    element-copy-out-t19
     returns-2
     slice-aggregate-is-word-3
     slice-aggregate-is-word-4
     is-word-requires-2
-    element-copy-out-t26
+    element-copy-out-t27
     returns-3
     returns-4
     slice-aggregate-is-word-5
     slice-aggregate-is-word-6
     is-word-requires-3
-    element-copy-out-t34
-    element-copy-out-t37
-    element-copy-out-t40
-    element-copy-out-t43
-    element-copy-out-t46
+    element-copy-out-t35
+    element-copy-out-t38
+    element-copy-out-t41
+    element-copy-out-t44
+    element-copy-out-t35-2
     returns-5
     returns-6
     returns-7)

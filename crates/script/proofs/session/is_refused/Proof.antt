@@ -26,7 +26,7 @@ returns-2 : tie.Need-returns-2
 returns-2 c = refuses-ring (c .before .before .before .before .args .begun) (c .before .before .before .before .args .l) _ (c .opens-ring .result) (c .before .before .l .given .1) (c .opens-ring .ensures)
 
 returns-3 : tie.Need-returns-3
-returns-3 c = refuses-queue (c .before .before .args .begun) (c .before .before .args .l) _ _ _ _ _ (c .enum-told2 .given .1)
+returns-3 c = refuses-queue (c .before .before .args .begun) (c .before .before .args .l) _ _ (c .enum-told2 .given .1)
 
 returns-4 : tie.Need-returns-4
 returns-4 c = refuses-step (c .before .before .args .begun) (c .before .before .args .l) _ (c .enum-told3 .given .1)

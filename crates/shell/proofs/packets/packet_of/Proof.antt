@@ -51,7 +51,7 @@ returns-2 c = c .transmit .ensures ∙ rw (c .before .before .before .before .f2
 
 returns-3 : tie.Need-returns-3
 unfolding packetOf
-returns-3 c = c .information .ensures ∙ rw (c .before .before .f3 .given .1)
+returns-3 c = c .information .ensures ∙ rw (c .before .before .before .f3 .given .1)
 
 pub packet-of-spec : {M : Type 1} → statement M
 packet-of-spec =

@@ -39,7 +39,7 @@ returns-2 c = search needs
 
 returns-3 : tie.Need-returns-3
 unfolding carriedIn
-returns-3 c = rw (c .before .before .f .given .1) (c .in-place .ensures)
+returns-3 c = rw (c .before .before .before .before .f .given .1) (c .in-place .ensures)
 
 pub carried-in-spec : {M : Type 1} → statement M
 carried-in-spec =

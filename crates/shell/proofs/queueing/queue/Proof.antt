@@ -1,10 +1,12 @@
 -- `queueing::queue` meets its contract: at each return the tests that led there say which number it is, and what is left. Assumes nothing.
 use mathlib.Core.Path.{_≡_}
 use mathlib.Core.Bool.{false}
+use mathlib.Core.List.{List}
+use Prim.Native.Nat.{ℕ}
 use native.Mathlib.Omega.{arith}
 use lib.ListN.{length}
 use Rattle.records.proofs.Laws.Load.{Held, not-good, good-enough, blank-enough, not-whole, held}
-use Rattle.shell.specs.Calls.{badStore}
+use Rattle.shell.specs.Calls.{badStore, requestOf}
 use Rattle.shell.proofs.Laws.Calls.{refused-9, refused-35, refused-own, done}
 use Rattle.shell.proofs.Laws.Handing.{store-bad, store-good, queue-answer, not-queued, all-queued}
 use borrow.Author.Needs.{needs}
@@ -65,8 +67,8 @@ slice-aggregate-members c = search needs
 members-requires : tie.Need-members-requires
 members-requires c κs = search needs
 
-position-requires : tie.Need-position-requires
-position-requires c κs = search needs
+request-of-requires : tie.Need-request-of-requires
+request-of-requires c κs = search needs
 
 queue-requires : tie.Need-queue-requires
 queue-requires c κs = search needs
@@ -78,7 +80,7 @@ returns-4 : tie.Need-returns-4
 returns-4 c =
     let e = c .before .before .before .before .before .before in
     let a = e .before .before .before .before .before .before .before .before .before .before .before .before .before .args in
-    let b = queue-answer (held-at e) (a .to) (a .priority) (a .channel) (a .payload .now) _ _ _ (c .before .before .before .before .members .ensures) (c .before .before .before .position .ensures) (c .before .before .queue .ensures) in
+    let b = queue-answer (held-at e) (λ (ring : List ℕ). requestOf ring (a .to) (a .priority) (a .channel) (length (a .payload .now))) _ _ _ (c .before .before .before .before .members .ensures) (c .before .before .before .request-of .ensures) (c .before .before .queue .ensures) in
     not-queued (refused-own (good-buffers-at (e .before .before .before .before .before .before .before .before .before)) (held-at e .ok) _ b (c .if4 .taken))
 
 save-requires : tie.Need-save-requires
@@ -99,7 +101,7 @@ returns-5 : tie.Need-returns-5
 returns-5 c =
     let e = c .before .before .before .before .before .before .before .before .before .before .before .before .before .before .before in
     let a = e .before .before .before .before .before .before .before .before .before .before .before .before .before .args in
-    let b = queue-answer (held-at e) (a .to) (a .priority) (a .channel) (a .payload .now) _ _ _ (c .before .before .before .before .before .before .before .before .before .before .before .before .before .members .ensures) (c .before .before .before .before .before .before .before .before .before .before .before .before .position .ensures) (c .before .before .before .before .before .before .before .before .before .before .before .queue .ensures) in
+    let b = queue-answer (held-at e) (λ (ring : List ℕ). requestOf ring (a .to) (a .priority) (a .channel) (length (a .payload .now))) _ _ _ (c .before .before .before .before .before .before .before .before .before .before .before .before .before .members .ensures) (c .before .before .before .before .before .before .before .before .before .before .before .before .request-of .ensures) (c .before .before .before .before .before .before .before .before .before .before .before .queue .ensures) in
     all-queued _ _ _ (done (good-buffers-at (e .before .before .before .before .before .before .before .before .before)) (held-at e .ok) _ b (c .before .before .before .before .before .before .before .before .before .if4 .left)) b (c .before .before .before .before .before .before .save .ensures) (c .before .before .put-queued .ensures)
 
 pub queue-spec : {M : Type 1} → statement M
@@ -117,7 +119,7 @@ queue-spec =
     returns-3
     slice-aggregate-members
     members-requires
-    position-requires
+    request-of-requires
     queue-requires
     same-length-3
     returns-4

@@ -251,6 +251,12 @@ pub struct Station {
     pub ring: Ring,
 }
 
+/// A call by itself: reading a record stays small.
+#[inline(never)]
+fn ring_of(file: &[u8]) -> Option<Ring> {
+    Ring::read(file).ok()
+}
+
 /// Writes the record of a station that is made.
 pub fn make(record: &mut [u8; RECORD], file: &[u8], own: u8, members: usize) {
     record[..file.len()].copy_from_slice(file);
@@ -284,7 +290,7 @@ impl Station {
         let record: &mut [u8; RECORD] = record.try_into().ok()?;
         let members = usize::from(u16::from_be_bytes([record[0], record[1]]) >> 6 & 63) + 1;
         let (file, after) = record[..RING].split_at(2 + 6 * members);
-        let ring = Ring::read(file).ok()?;
+        let ring = ring_of(file)?;
         if !zero(after) {
             return None;
         }

@@ -12,7 +12,7 @@ seats-of-requires c κs = search needs
 returns : tie.Need-returns
 returns c =
     let a = c .before .before .args in
-    queue-outside (a .self) (c .before .seats-of .result) (a .from) (a .to) (a .priority) (a .channel) (a .length) (c .before .seats-of .ensures) (c .if1 .taken)
+    queue-outside (a .self) (c .before .seats-of .result) (a .from) (a .q) (c .before .seats-of .ensures) (c .if1 .taken)
 
 queue-in-requires : tie.Need-queue-in-requires
 queue-in-requires c κs =
@@ -21,7 +21,7 @@ queue-in-requires c κs =
 returns-2 : tie.Need-returns-2
 returns-2 c =
     let a = c .before .before .before .before .before .args in
-    queue-at-record (a .self) (c .before .before .before .before .seats-of .result) (a .from) (a .to) (a .priority) (a .channel) (a .length) (c .before .before .before .before .seats-of .ensures)
+    queue-at-record (a .self) (c .before .before .before .before .seats-of .result) (a .from) (a .q) (c .before .before .before .before .seats-of .ensures)
     (c .before .queue-in .result) (c .before .before .before .if1 .left) (c .before .queue-in .ensures)
 
 pub queue-spec : {M : Type 1} → statement M

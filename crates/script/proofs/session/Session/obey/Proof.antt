@@ -77,7 +77,7 @@ returns-4 : tie.Need-returns-4
 returns-4 c =
     let a = c .before .before .before .before .before .before .before .before .before .before .before .before .before .args in
     obey-queue (a .self) (a .l) (a .out .now) (a .at) (omega (arith, c .before .before .before .before .before .before .before .before .before .before .room-from .ensures, c .before .before .before .before .before .before .before .before .before .if1 .left)) (c .before .before .send .result) _
-    (sym (c .before .before .before .before .before .before .before .before .is-refused .ensures) ∙ c .before .before .before .before .before .before .before .if2 .left) _ _ _ _ _ (c .before .before .before .before .before .l2 .given .1) (c .before .before .send .ensures .0) (c .before .before .send .ensures .1)
+    (sym (c .before .before .before .before .before .before .before .before .is-refused .ensures) ∙ c .before .before .before .before .before .before .before .if2 .left) _ _ (c .before .before .before .before .before .l2 .given .1) (c .before .before .send .ensures .0) (c .before .before .send .ensures .1)
 
 same-length-5 : tie.Need-same-length-5
 same-length-5 c = search needs

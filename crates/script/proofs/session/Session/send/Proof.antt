@@ -18,7 +18,7 @@ returns : tie.Need-returns
 returns c =
     let a = c .before .before .before .before .before .before .before .before .args in
     send-done (a .out .now) _ (a .at) _ (c .before .before .before .before .before .queue .result)
-    (queue (a .self .bench) (a .from) (a .to) (a .priority) (a .channel) (a .size)) (c .before .before .before .before .before .queue .ensures) (c .before .before .before .put-answer .ensures .0) (c .before .before .before .put-answer .ensures .1)
+    (queue (a .self .bench) (a .from) (a .q)) (c .before .before .before .before .before .queue .ensures) (c .before .before .before .put-answer .ensures .0) (c .before .before .before .put-answer .ensures .1)
 
 pub send-spec : {M : Type 1} → statement M
 send-spec = tie.close (tie.spec queue-requires put-answer-requires same-length returns)

@@ -8,7 +8,7 @@ add-up-to-requires : tie.Need-add-up-to-requires
 add-up-to-requires c κs = search needs
 
 returns : tie.Need-returns
-returns c = receives-none _ _ _ (c .add-up-to .ensures) (c .before .if1 .taken)
+returns c = receives-none _ _ _ (c .add-up-to .ensures) (c .before .before .if1 .taken)
 
 push-requires : tie.Need-push-requires
 push-requires c κs = search needs

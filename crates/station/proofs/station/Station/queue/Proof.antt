@@ -31,9 +31,9 @@ returns-2 c = c .number-alone2 .ensures ∙ sym (moved-runs _ _ _ (c .before .be
 
 accept-requires : tie.Need-accept-requires
 accept-requires c κs =
-    let g = queue-good _ _ _ _ _ _ _ _ (sym (c .before .check-queue .ensures) ∙ c .if2 .left) in
+    let g = queue-good _ _ _ _ _ (sym (c .before .check-queue .ensures) ∙ c .if2 .left) in
     let b : c .before .before .before .before .before .args .self .n ≤ 255 = search needs in
-    (omega (arith, g .member), (g .priority-fits, (g .channel-fits, g .length-fits)))
+    record { to-fits = omega (arith, g .member); priority-fits = g .priority-fits; channel-fits = g .channel-fits; length-fits = g .length-fits }
 
 returns-3 : tie.Need-returns-3
 unfolding queueRule

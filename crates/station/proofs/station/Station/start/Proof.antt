@@ -1,7 +1,9 @@
--- `Station::start` meets its contract: the table of moves, then what a start does.
+-- `Station::start` meets its contract: the table of moves, then what is decided and done.
 use mathlib.Core.Path.{sym, _∙_}
 use Rattle.station.specs.Start.{startRule}
+use Rattle.parts.specs.declared.moves.Event.the-variants.{Start}
 use Rattle.station.proofs.Laws.Moved.{moved-runs, moved-stops}
+use Rattle.station.proofs.Laws.Decide.{start-decides}
 use borrow.Author.Needs.{needs}
 use Rattle.station.proofs.station.Station.start.Statement.{statement}
 use Rattle.station.proofs.station.Station.start.Tie as tie
@@ -14,15 +16,25 @@ number-alone-requires c κs = search needs
 
 returns : tie.Need-returns
 unfolding startRule
-returns c = c .number-alone .ensures ∙ sym (moved-stops _ _ _ (c .before .before .move-of .ensures) (c .before .if1 .taken))
+returns c = c .number-alone .ensures ∙ sym (moved-stops _ Start _ (c .before .before .move-of .ensures) (c .before .if1 .taken))
 
-start-up-requires : tie.Need-start-up-requires
-start-up-requires c κs = search needs
+starting-of-requires : tie.Need-starting-of-requires
+starting-of-requires c κs = search needs
+
+turn-alone-requires : tie.Need-turn-alone-requires
+turn-alone-requires c κs = search needs
 
 returns-2 : tie.Need-returns-2
 unfolding startRule
-returns-2 c = c .start-up .ensures ∙ sym (moved-runs _ _ _ (c .before .before .move-of .ensures) (c .before .if1 .left))
+returns-2 c = c .turn-alone .ensures ∙ rw (c .before .starting-of .ensures) (sym (moved-runs _ Start _ (c .before .before .before .move-of .ensures) (c .before .before .if1 .left) ∙ start-decides _))
 
 pub start-spec : {M : Type 1} → statement M
 start-spec =
-    tie.close (tie.spec move-of-requires number-alone-requires returns start-up-requires returns-2)
+    tie.close
+    (tie.spec
+    move-of-requires
+    number-alone-requires
+    returns
+    starting-of-requires
+    turn-alone-requires
+    returns-2)

@@ -1,0 +1,237 @@
+-- Laws of what is decided before any list is touched: once it is done it is what the page's rules say. Assumes nothing.
+use mathlib.Core.Path.{_≡_, refl, sym, ap, _∙_}
+use mathlib.Core.Bool.{Bool, true, false, not, cond, false≢true}
+use mathlib.Core.List.{[], _∷_}
+use Prim.Native.Nat.{ℕ}
+use lib.Dec.{eqb, ltb}
+use Rattle.codec.specs.Order.{firstOf}
+use Rattle.parts.specs.Choose.{pick}
+use Rattle.parts.specs.Moves.{moveOf, runs, isIdle}
+use Rattle.parts.specs.Messages.{none, best, splitBy}
+use Rattle.parts.specs.Live.{without, successor}
+use Rattle.parts.specs.Frames.{numberOf, flight, noFlight, failingOf}
+use Rattle.plain_rules.specs.Round.{reply, startRound}
+use Rattle.plain_rules.specs.Resend.{resend}
+use Rattle.station.specs.Stations.{stateOf, awaitedOf, withTurn, moreTurn, quietTurn, quiet, sendingTurn, alone, head, answered, moved, unless}
+use Rattle.station.specs.Round.{sight}
+use Rattle.station.specs.Strike.{Struck}
+use Rattle.station.specs.Start.{sentFirst, started, startRule}
+use Rattle.station.specs.Heard.{checks, acknowledged, acknowledge, failed, isLast, stops, nothingMore, heardMessage, receive, stored, sendOn, handle, silent, respond, heard, frameRule}
+use Rattle.station.specs.Timer.{again, unanswered, leftAlone, goesOn, afterStrike, silence, onTimer, timerRule}
+use Rattle.station.specs.Deeds.{refused, turned, landing, leaving, liveAfter, struckBy, left, touched, storing, fully, carriedOut, verdict, turnAlone}
+use Rattle.station.specs.Decide.{liveWithout, competing, sightAfter, rested, landsBy, blowAt, blowOf, closed, courseOf, toStore, storesToo, quietly, replying, hearing, decided, strikesOut, goingOn, lastTimer, waited, timing, beginning, starting}
+use Rattle.parts.specs.declared.moves.State.the-variants.{Idle, Alone, Excluded}
+use Rattle.parts.specs.declared.moves.Event.the-variants.{Heard, Timer, Start}
+use Rattle.parts.specs.declared.list.Message.{Message}
+use Rattle.parts.specs.declared.list.Messages.{Messages}
+use Rattle.parts.specs.declared.list.Flight.{Flight}
+use Rattle.parts.specs.declared.list.Which.the-variants.{AnyWaiting, WaitingFor, WaitingForOthers}
+use Rattle.parts.specs.declared.frame.Whom.{Whom}
+use Rattle.parts.specs.declared.frame.Whom.the-variants.{Nobody, Member}
+use Rattle.parts.specs.declared.frame.Frame.{Frame}
+use Rattle.parts.specs.declared.frame.Frame.the-variants.{Token, Transmit, Information}
+use Rattle.parts.specs.declared.frame.Dispatch.{Dispatch}
+use Rattle.parts.specs.declared.frame.Dispatch.the-variants.{Nothing, Sent}
+use Rattle.plain_rules.specs.declared.round.Sight.{Sight}
+use Rattle.station.specs.declared.station.Handled.the-variants.{Last}
+use Rattle.station.specs.declared.station.Turn.{Turn}
+use Rattle.station.specs.declared.station.Station.{Station}
+use Rattle.station.specs.declared.station.Answer.{Answer}
+use Rattle.station.specs.declared.station.Payload.{Payload}
+use Rattle.station.specs.declared.station.Payload.the-variants.{NoPayload, Of}
+use Rattle.station.specs.declared.rules.heard.Stored.{Stored}
+use Rattle.station.specs.declared.rules.heard.Course.{Course}
+use Rattle.station.specs.declared.rules.deeds.Blow.{Blow}
+use Rattle.station.specs.declared.rules.deeds.Blow.the-variants as blow
+use Rattle.station.specs.declared.rules.deeds.Verdict.{Verdict}
+use Rattle.parts.proofs.Laws.Choose.{pick-true, pick-false}
+use Rattle.station.proofs.Laws.Deeds.{carries-turn, either-way, turned-alone, struckOf, fails, strikes-out, ackedBy, acknowledges, receive-turn, receive-sight}
+use Rattle.station.proofs.Laws.Heads.{landed-best, others-best, flight-best}
+
+-- ---- which of the two a heard frame asks for
+
+module _ (s : Station) (f : Frame) (from to : ℕ) (k : Course) (n : ℕ) (i : n ≡ numberOf f) where
+  pub hears-quietly : stops (s .own) (k .turn) to n ≡ true → quietly k ≡ hearing s f from to k
+  unfolding hearing
+  hears-quietly h = sym (pick-true _ _ (ap (stops (s .own) (k .turn) to) (sym i) ∙ h))
+
+  pub hears-replying : stops (s .own) (k .turn) to n ≡ false → replying s f from k ≡ hearing s f from to k
+  unfolding hearing
+  hears-replying h = sym (pick-false _ _ (ap (stops (s .own) (k .turn) to) (sym i) ∙ h))
+
+-- ---- where it is answered, nobody is Alone or Excluded, and the station looks at what it looked at before
+
+stopped-there : (own : ℕ) (t : Turn) (to k : ℕ) → isIdle (t .state) ≡ false → stops own t to k ≡ true
+stopped-there own t to k i = go (not (eqb to own)) (isLast (t .handled) k) (isIdle (t .state)) i
+  where
+    go : (a b c : Bool) → c ≡ false → firstOf false ((a, true) ∷ (b, true) ∷ (not c, true) ∷ []) ≡ true
+    go true b c e = refl
+    go false true c e = refl
+    go false false true e = sym e
+    go false false false e = refl
+
+module _ (s : Station) (a : Bool) (to k : ℕ) where
+  abbrev after : Blow → Station
+  after b = struckOf s b (closed (rested (s .turn) a) b) (leaving b (flight (rested (s .turn) a .awaited)) (landing (landsBy (s .turn) a) (s .sends))) .station
+
+  looks : (w : Whom) → stops (s .own) (closed (rested (s .turn) a) (blowOf (s .live) (s .n) (s .own) w)) to k ≡ false
+      → sight (after (blowOf (s .live) (s .n) (s .own) w)) ≡ sightAfter s w
+  unfolding blowOf blowAt closed leaving liveAfter liveWithout competing head pick
+  looks Nobody h = rw (landed-best (s .turn) a Nobody (s .sends))
+  looks (Member p) h = go (eqb p (s .own)) (eqb (successor (without (s .live) p) (s .n) (s .own)) (s .own)) h
+    where
+      t : Turn
+      t = rested (s .turn) a
+
+      go : (x y : Bool) → stops (s .own) (closed t (pick x (blow.Itself p) (pick y (blow.Last p) (blow.Another p)))) to k ≡ false
+          → sight (after (pick x (blow.Itself p) (pick y (blow.Last p) (blow.Another p)))) ≡ sightAfter s (Member p)
+      go true y e = absurd (false≢true (sym e ∙ stopped-there (s .own) (quietTurn t Excluded) to k refl))
+      go false true e = absurd (false≢true (sym e ∙ stopped-there (s .own) (quietTurn t Alone) to k refl))
+      go false false e =
+          rw (others-best (flight (t .awaited)) p (landing (landsBy (s .turn) a) (s .sends)), landed-best (s .turn) a (Member p) (s .sends))
+
+-- ---- what is stored, and the frame that is sent
+
+module _ (k : Struck) (s : Station) (same : s .receives ≡ k .station .receives) (from : ℕ) (d : Dispatch) (n : ℕ) where
+  replies : (f : Frame)
+      → sendOn k (stored (k .station) from f) n d
+      ≡ record {
+        station = storing (withTurn (k .station) (sendingTurn (Last n) d)) (toStore s from f) .station;
+        number = 0;
+        sent = d;
+        struck = k .struck;
+        gone = k .gone;
+        payload = storing (withTurn (k .station) (sendingTurn (Last n) d)) (toStore s from f) .payload;
+      }
+  unfolding stored toStore storing
+  replies (Token t) = refl
+  replies (Transmit t) = refl
+  replies (Information i) =
+      rw (same, receive-turn (k .station) (heardMessage (k .station) from i) (sendingTurn (Last n) d))
+
+stored-sight : (s : Station) (from : ℕ) (f : Frame) → sight (stored s from f .station) ≡ sight s
+unfolding stored
+stored-sight s from (Token t) = refl
+stored-sight s from (Transmit t) = refl
+stored-sight s from (Information i) = receive-sight s (heardMessage s from i)
+
+-- ---- the steps
+
+module _ (s : Station) (f : Frame) (from to : ℕ) where
+  abbrev acked : Bool
+  acked = acknowledged s from (numberOf f)
+
+  abbrev hit : Blow
+  hit = blowOf (s .live) (s .n) (s .own) (failingOf f)
+
+  abbrev harmed : Struck
+  harmed = struckOf s hit (closed (rested (s .turn) acked) hit) (leaving hit (flight (rested (s .turn) acked .awaited)) (landing (landsBy (s .turn) acked) (s .sends)))
+
+  harms : heard s f from to ≡ respond harmed from to f
+  unfolding heard
+  harms =
+      ap (λ (t : Station). respond (failed t (failingOf f)) from to f) (acknowledges s from (numberOf f))
+      ∙ ap (λ (k : Struck). respond k from to f) (fails (ackedBy s acked) (failingOf f))
+
+  stays-quiet : silent harmed ≡ fully s (quietly (courseOf s f acked))
+  unfolding fully storing
+  stays-quiet = refl
+
+  answers : stops (s .own) (closed (rested (s .turn) acked) hit) to (numberOf f) ≡ false
+      → handle harmed (stored (harmed .station) from f) f ≡ fully s (replying s f from (courseOf s f acked))
+  unfolding handle fully replying
+  answers h =
+      ap (λ (v : Sight). sendOn harmed (stored (harmed .station) from f) (numberOf f) (reply v f))
+      (stored-sight (harmed .station) from f ∙ looks s acked to (numberOf f) (failingOf f) h)
+      ∙ replies harmed s refl from (reply (sightAfter s (failingOf f)) f) (numberOf f) f
+
+  pub decides : heard s f from to ≡ carriedOut s (hearing s f from to (courseOf s f acked))
+  unfolding respond nothingMore hearing replying pick
+  decides = harms ∙ go (stops (s .own) (closed (rested (s .turn) acked) hit) to (numberOf f)) refl
+    where
+      go : (b : Bool) → stops (s .own) (closed (rested (s .turn) acked) hit) to (numberOf f) ≡ b
+          → pick b (silent harmed) (handle harmed (stored (harmed .station) from f) f)
+          ≡ carriedOut s (pick b (quietly (courseOf s f acked)) (replying s f from (courseOf s f acked)))
+      go true e = stays-quiet ∙ either-way s 0 _ _ _
+      go false e = answers e ∙ either-way s 0 _ _ _
+
+-- after the table of moves and the checks
+nothing-done : (s : Station) (number : ℕ) → answered s number ≡ carriedOut s (refused (s .turn) number)
+nothing-done s number = turned-alone s number (s .turn) Nothing
+
+pub frame-decides : (s : Station) (f : Frame) (from to : ℕ) → frameRule s f from to ≡ carriedOut s (decided s f from to)
+unfolding frameRule moved unless decided pick
+frame-decides s f from to = go (eqb (moveOf (stateOf s) Heard) runs) (eqb (checks s from to) 0)
+  where
+    v : Verdict
+    v = hearing s f from to (courseOf s f (acknowledged s from (numberOf f)))
+
+    go : (b c : Bool)
+        → pick b (pick c (heard s f from to) (answered s (checks s from to))) (answered s (moveOf (stateOf s) Heard))
+        ≡ carriedOut s (pick b (pick c v (refused (s .turn) (checks s from to))) (refused (s .turn) (moveOf (stateOf s) Heard)))
+    go true true = decides s f from to
+    go true false = nothing-done s (checks s from to)
+    go false c = nothing-done s (moveOf (stateOf s) Heard)
+
+-- where the turn alone changes
+pub turned-hears : (s : Station) (f : Frame) (from to : ℕ) → decided s f from to .alone ≡ true → frameRule s f from to ≡ turnAlone s (decided s f from to)
+turned-hears s f from to e = frame-decides s f from to ∙ sym (carries-turn s (decided s f from to) e)
+
+-- ---- the timer, and the start
+
+module _ (s : Station) (to : ℕ) where
+  abbrev lone : Struck
+  lone = struckOf s (blow.Last to) (s .turn) (leaving (blow.Last to) (flight (awaitedOf s)) (s .sends))
+
+  looks-on : sight (quiet (lone .station) Idle) ≡ sightAfter s (Member to)
+  unfolding leaving liveAfter liveWithout competing head
+  looks-on =
+      rw (flight-best (splitBy (WaitingFor (flight (awaitedOf s)) to) (s .sends)) (flight (awaitedOf s)), others-best (flight (awaitedOf s)) to (s .sends))
+
+  strikes-fully : (t : Turn) (d : Dispatch)
+      → record { station = withTurn (lone .station) t; number = 0; sent = d; struck = lone .struck; gone = lone .gone; payload = NoPayload }
+      ≡ fully s (strikesOut s to t d)
+  unfolding fully storing landing pick
+  strikes-fully t d = refl
+
+  goes-alone : leftAlone lone ≡ carriedOut s (strikesOut s to (quietTurn (s .turn) Alone) Nothing)
+  goes-alone = strikes-fully (quietTurn (s .turn) Alone) Nothing ∙ either-way s 0 _ _ _
+
+  goes-further : (d : Dispatch) → goesOn lone d ≡ carriedOut s (goingOn s to d)
+  goes-further d = strikes-fully (sendingTurn (s .turn .handled) d) d ∙ either-way s 0 _ _ _
+
+  pub times-last : (f : Frame) → afterStrike (unanswered s to) to f ≡ carriedOut s (lastTimer s to f)
+  unfolding afterStrike unanswered lastTimer liveAfter pick
+  times-last f = ap (λ (k : Struck). afterStrike k to f) (strikes-out s to) ∙ go (eqb (successor (without (s .live) to) (s .n) (s .own)) (s .own))
+    where
+      go : (b : Bool)
+          → pick b (leftAlone lone) (goesOn lone (resend (sight (quiet (lone .station) Idle)) to f))
+          ≡ carriedOut s (pick b (strikesOut s to (quietTurn (s .turn) Alone) Nothing) (goingOn s to (resend (sightAfter s (Member to)) to f)))
+      go true = goes-alone
+      go false = ap (λ (v : Sight). goesOn lone (resend v to f)) looks-on ∙ goes-further (resend (sightAfter s (Member to)) to f)
+
+turned-done : (s : Station) (t : Turn) (d : Dispatch) → turnAlone s (turned t d) ≡ carriedOut s (turned t d)
+turned-done s t d = turned-alone s 0 t d
+
+pub timer-decides : (s : Station) (d : Dispatch) → onTimer s d ≡ carriedOut s (timing s d)
+unfolding onTimer timing silence waited pick
+timer-decides s Nothing = nothing-done s 0
+timer-decides s (Sent f to) = go (ltb (s .turn .retries) (s .limit))
+  where
+    go : (b : Bool) → pick b (again s) (afterStrike (unanswered s to) to f) ≡ carriedOut s (pick b (turned (moreTurn (s .turn)) (awaitedOf s)) (lastTimer s to f))
+    go true = turned-done s (moreTurn (s .turn)) (awaitedOf s)
+    go false = times-last s to f
+
+looks-first : (s : Station) → sight s ≡ sightAfter s Nobody
+unfolding liveWithout competing head
+looks-first s = refl
+
+pub start-decides : (s : Station) → started s ≡ turnAlone s (starting s)
+unfolding started starting pick
+start-decides s = go (eqb (s .own) 0)
+  where
+    go : (b : Bool)
+        → pick b (sentFirst s (startRound (sight s) 0 Nobody)) (answered (quiet s Idle) 0)
+        ≡ turnAlone s (pick b (beginning s (startRound (sightAfter s Nobody) 0 Nobody)) (turned (quietTurn (s .turn) Idle) Nothing))
+    go true = ap (λ (v : Sight). sentFirst s (startRound v 0 Nobody)) (looks-first s)
+    go false = refl

@@ -1,0 +1,44 @@
+-- `timer::last_timer` meets its contract: one test, whether nobody else is left.
+use mathlib.Core.Path.{sym, ap, _∙_}
+use Rattle.parts.proofs.Laws.Choose.{pick-true, pick-false}
+use borrow.Author.Tests.{eq-eqb, ne-eqb}
+use Rattle.plain_rules.specs.declared.round.Sight.{Sight}
+use Rattle.station.specs.Decide.{lastTimer, liveWithout}
+use borrow.Author.Needs.{needs}
+use Rattle.station.proofs.rules.timer.last_timer.Statement.{statement}
+use Rattle.station.proofs.rules.timer.last_timer.Tie as tie
+
+look-after-requires : tie.Need-look-after-requires
+look-after-requires c κs = search needs
+
+resting-requires : tie.Need-resting-requires
+resting-requires c κs = search needs
+
+strike-out-requires : tie.Need-strike-out-requires
+strike-out-requires c κs = search needs
+
+returns : tie.Need-returns
+unfolding lastTimer liveWithout
+returns c = c .strike-out .ensures ∙ rw (c .before .resting .ensures) (sym (pick-true _ _ (eq-eqb _ _ (ap (λ (v : Sight). v .next) (sym (c .before .before .before .before .before .look-after .ensures)) ∙ c .before .before .if1 .taken))))
+
+send-instead-requires : tie.Need-send-instead-requires
+send-instead-requires c κs = search needs
+
+go-on-requires : tie.Need-go-on-requires
+go-on-requires c κs = search needs
+
+returns-2 : tie.Need-returns-2
+unfolding lastTimer liveWithout
+returns-2 c = c .go-on .ensures ∙ rw (c .before .send-instead .ensures, c .before .before .before .before .before .look-after .ensures) (sym (pick-false _ _ (ne-eqb _ _ (λ e. c .before .before .if1 .left (ap (λ (v : Sight). v .next) (c .before .before .before .before .before .look-after .ensures) ∙ e)))))
+
+pub last-timer-spec : {M : Type 1} → statement M
+last-timer-spec =
+    tie.close
+    (tie.spec
+    look-after-requires
+    resting-requires
+    strike-out-requires
+    returns
+    send-instead-requires
+    go-on-requires
+    returns-2)
