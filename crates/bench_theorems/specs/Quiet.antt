@@ -21,7 +21,7 @@ use Rattle.parts.specs.declared.frame.Dispatch.the-variants.{Sent}
 use Rattle.station.specs.declared.station.Handled.{Handled}
 use Rattle.station.specs.declared.station.Handled.the-variants.{Never, Last}
 use Rattle.station.specs.declared.station.Station.{Station}
-use Rattle.station_theorems.proofs.Laws.Sound.{WholeStation}
+use Rattle.station_theorems.specs.Shaped.{WholeStation}
 use Rattle.bench.specs.Ring.{stationAt}
 use Rattle.bench.specs.declared.ring.Bench.{Bench}
 

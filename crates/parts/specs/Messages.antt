@@ -33,8 +33,8 @@ messageFor q place =
 pub record Fits (q : Request) : Type 0 where
   pub to-fits : q .to ≤ 255
   pub priority-fits : q .priority ≤ 255
-  pub channel-fits : q .channel ≤ 7
-  pub length-fits : q .length ≤ 1492
+  pub channel-fits : q .channel ≤ 255
+  pub length-fits : q .length ≤ 65535
 
 abbrev pub none : Messages
 none = record { items = replicate 16 blank; len = 0 }

@@ -2,7 +2,6 @@
 pub mod Goes
 pub mod Numbers
 pub mod Rows
-pub mod Typed
 pub mod Slips
 pub mod Turns
 pub mod Flags

@@ -8,7 +8,7 @@ use lib.ListN.{length, take, getD}
 use Rattle.codec.specs.Order.{firstOf}
 use Rattle.codec.specs.Octets.{laid}
 use Rattle.codec.specs.Ring.{Ring, readRing}
-use Rattle.packet_codec.specs.Packet.{longestPacket, size, wireOctets, packetOctets, writeRefusal, kept}
+use Rattle.packet_codec.specs.Packet.{longestPacket, size, wireOctets, packetOctets, readPacket, readNumber, writeRefusal, kept}
 use Rattle.packet_codec.specs.declared.packet.Short.{Short}
 use Rattle.packet_codec.specs.declared.packet.Head.{Head}
 use Rattle.packet_codec.specs.declared.packet.Packet.{Packet}
@@ -44,6 +44,10 @@ valuesOf (Information h) = headValues h
 abbrev pub readTold : Read → List ℕ → List ℕ
 readTold (Refused n) told = told
 readTold (Good p) told = valuesOf p
+
+pub record ReadTold (ring packet told : List ℕ) (r : ℕ) (told′ : List ℕ) : Type 0 where
+  pub answer : r ≡ readNumber (readPacket ring packet)
+  pub told-is : told′ ≡ readTold (readPacket ring packet) told
 
 -- ---- and back: nothing where a number is out of its field's range, or is not 0 where the kind has no such field
 

@@ -4,9 +4,9 @@ ghost use mathlib.Core.List.{List, [], _∷_, _++_};
 ghost use Prim.Native.Nat.{_+_, _≤_, _<_};
 ghost use lib.ListN.{length};
 ghost use Rattle.codec.specs.Octets.{laid};
-ghost use Rattle.packet_codec.specs.Packet.{shortPacket, packetOf, readPacket, readNumber};
+ghost use Rattle.packet_codec.specs.Packet.{shortPacket, packetOf};
 ghost use Rattle.rtep.specs.declared.Made.the-variants.{Nothing, Packet as Of};
-ghost use Rattle.rtep.specs.Told.{RingTold, valuesOf, shortValues, headValues, readTold, shortMade, headMade, madeOf, madeRefusal, WriteTold};
+ghost use Rattle.rtep.specs.Told.{RingTold, valuesOf, shortValues, headValues, ReadTold, shortMade, headMade, madeOf, madeRefusal, WriteTold};
 use codec::head::head_of;
 use codec::ring::members;
 use codec::ring::read_into;
@@ -112,7 +112,7 @@ fn head_values(h: Head) -> [u64; 8]
 // Reads a packet against a ring, and tells its eight numbers.
 #[no_mangle]
 pub extern "C" fn rtep_read(ring: &[u64], packet: &[u8], told: &mut [u64; 8]) -> u32
-    ensures { λ r. ⌜ (r ≡ readNumber (readPacket (now (ring .entry)) (now (packet .entry)))) × (now (told .exit) ≡ readTold (readPacket (now (ring .entry)) (now (packet .entry))) (now (told .entry))) ⌝ }
+    ensures { λ r. ⌜ ReadTold (now (ring .entry)) (now (packet .entry)) (now (told .entry)) r (now (told .exit)) ⌝ }
 {
     let number = refusal_of(ring, packet);
     if number != 0 {

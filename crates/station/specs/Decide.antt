@@ -1,7 +1,7 @@
 -- What a call decides, over the turn, the live set, the position and the head, before any list is touched.
 use mathlib.Core.Bool.{Bool}
 use Prim.Native.Nat.{ℕ}
-use lib.Dec.{eqb, ltb}
+use lib.Dec.{eqb}
 use Rattle.parts.specs.Choose.{pick}
 use Rattle.parts.specs.Moves.{moveOf, runs}
 use Rattle.parts.specs.Messages.{best}
@@ -9,7 +9,7 @@ use Rattle.parts.specs.Live.{without, successor}
 use Rattle.parts.specs.Frames.{numberOf, flight, noFlight, failingOf}
 use Rattle.plain_rules.specs.Round.{reply, startRound}
 use Rattle.plain_rules.specs.Resend.{resend}
-use Rattle.station.specs.Stations.{stateOf, awaitedOf, quietTurn, sendingTurn, moreTurn}
+use Rattle.station.specs.Stations.{stateOf, awaitedOf, quietTurn, sendingTurn}
 use Rattle.station.specs.Heard.{checks, acknowledged, stops, heardMessage}
 use Rattle.station.specs.Deeds.{verdict, refused, turned}
 use Rattle.parts.specs.declared.moves.State.the-variants.{Idle, Alone, Excluded}
@@ -23,7 +23,7 @@ use Rattle.parts.specs.declared.frame.Whom.the-variants.{Nobody, Member}
 use Rattle.parts.specs.declared.frame.Frame.{Frame}
 use Rattle.parts.specs.declared.frame.Frame.the-variants.{Token, Transmit, Information}
 use Rattle.parts.specs.declared.frame.Dispatch.{Dispatch}
-use Rattle.parts.specs.declared.frame.Dispatch.the-variants.{Nothing, Sent}
+use Rattle.parts.specs.declared.frame.Dispatch.the-variants.{Nothing}
 use Rattle.plain_rules.specs.declared.round.Sight.{Sight}
 use Rattle.station.specs.declared.station.Handled.the-variants.{Last}
 use Rattle.station.specs.declared.station.Turn.{Turn}
@@ -147,14 +147,6 @@ lastTimer s to f =
     pick (eqb (successor (without (s .live) to) (s .n) (s .own)) (s .own))
     (strikesOut s to (quietTurn (s .turn) Alone) Nothing)
     (goingOn s to (resend (sightAfter s (Member to)) to f))
-
-unfoldable pub waited : Station → ℕ → Frame → Verdict
-waited s to f =
-    pick (ltb (s .turn .retries) (s .limit)) (turned (moreTurn (s .turn)) (awaitedOf s)) (lastTimer s to f)
-
-unfoldable pub timing : Station → Dispatch → Verdict
-timing s Nothing = refused (s .turn) 0
-timing s (Sent frame to) = waited s to frame
 
 abbrev pub beginning : Station → Dispatch → Verdict
 beginning s d = turned (sendingTurn (s .turn .handled) d) d

@@ -1,14 +1,15 @@
 -- What is done to a station once it is decided: who leaves the send list, why and in which order; who is struck; what is stored.
 use mathlib.Core.Bool.{Bool, true, false, not, _&&_}
 use Prim.Native.Nat.{ℕ}
+use lib.Dec.{leb}
 use Rattle.parts.specs.Choose.{pick}
 use Rattle.parts.specs.Messages.{none, pushed, splitBy, best}
 use Rattle.parts.specs.Live.{without}
 use Rattle.parts.specs.Frames.{noFlight}
 use Rattle.plain_rules.specs.Heard.{newly}
 use Rattle.station.specs.Stations.{stationBy, withTurn, addUpTo}
-use Rattle.station.specs.Heard.{receive}
 use Rattle.parts.specs.declared.live.Live.{Live}
+use Rattle.parts.specs.declared.list.Message.{Message}
 use Rattle.parts.specs.declared.list.Messages.{Messages}
 use Rattle.parts.specs.declared.list.Parts.{Parts}
 use Rattle.parts.specs.declared.list.Flight.{Flight}
@@ -22,11 +23,11 @@ use Rattle.station.specs.declared.station.Station.{Station}
 use Rattle.station.specs.declared.station.Answer.{Answer}
 use Rattle.station.specs.declared.station.Payload.{Payload}
 use Rattle.station.specs.declared.station.Payload.the-variants.{NoPayload, Of}
-use Rattle.station.specs.declared.rules.heard.Stored.{Stored}
 use Rattle.station.specs.declared.rules.deeds.Blow.{Blow}
 use Rattle.station.specs.declared.rules.deeds.Blow.the-variants.{Spares, Another, Last, Itself}
 use Rattle.station.specs.declared.rules.deeds.Deeds.{Deeds}
 use Rattle.station.specs.declared.rules.deeds.Verdict.{Verdict}
+use Rattle.station.specs.declared.rules.deeds.Received.{Received}
 
 -- ---- what is to be done
 
@@ -108,30 +109,40 @@ struckBy l (Itself p) = newly l p
 
 -- ---- all of it
 
--- the station once messages have left
-abbrev pub touched : Station → Verdict → Parts → Station
-touched s v d =
+-- "stored, or counted lost if 16 are there"
+unfoldable pub receivedOne : Messages → ℕ → Message → Received
+receivedOne l lost m =
+    pick (leb 16 (l .len))
+    (record { list = l; lost = addUpTo lost 1; payload = NoPayload })
+    (record { list = pushed l m; lost = lost; payload = Of m })
+
+unfoldable pub received : Messages → ℕ → Payload → Received
+received l lost NoPayload = record { list = l; lost = lost; payload = NoPayload }
+received l lost (Of m) = receivedOne l lost m
+
+-- the station once messages have left and one is stored
+abbrev pub touched : Station → Verdict → Parts → Received → Station
+touched s v d r =
     stationBy (s .n) (s .limit) (s .own)
     (liveAfter (s .live) (v .deeds .blow))
     (d .kept)
-    (s .receives)
+    (r .list)
     (v .turn)
-    (record { lost = s .counts .lost; givenup = addUpTo (s .counts .givenup) (d .gone .len) })
+    (record { lost = r .lost; givenup = addUpTo (s .counts .givenup) (d .gone .len) })
 
-unfoldable pub storing : Station → Payload → Stored
-storing s NoPayload = record { station = s; payload = NoPayload }
-storing s (Of m) = receive s m
+abbrev pub stores : Station → Verdict → Received
+stores s v = received (s .receives) (s .counts .lost) (v .deeds .stores)
 
--- the lists and the live set
-unfoldable pub fully : Station → Verdict → Answer
-fully s v =
+-- what was decided is done
+unfoldable pub carriedOut : Station → Verdict → Answer
+carriedOut s v =
     record {
-      station = storing (touched s v (left (s .sends) (v .deeds))) (v .deeds .stores) .station;
+      station = touched s v (left (s .sends) (v .deeds)) (stores s v);
       number = v .number;
       sent = v .sent;
       struck = struckBy (s .live) (v .deeds .blow);
       gone = left (s .sends) (v .deeds) .gone;
-      payload = storing (touched s v (left (s .sends) (v .deeds))) (v .deeds .stores) .payload;
+      payload = stores s v .payload;
     }
 
 -- the turn alone
@@ -145,7 +156,3 @@ turnAlone s v =
       gone = none;
       payload = NoPayload;
     }
-
--- what was decided is done
-unfoldable pub carriedOut : Station → Verdict → Answer
-carriedOut s v = pick (v .alone) (turnAlone s v) (fully s v)

@@ -29,9 +29,9 @@ use Rattle.station.specs.declared.station.Handled.{Handled}
 use Rattle.station.specs.declared.station.Handled.the-variants.{Never, Last}
 use Rattle.station.specs.declared.station.Turn.{Turn}
 use Rattle.station.specs.declared.station.Station.{Station}
+use Rattle.station.specs.declared.station.Payload.{Payload}
 use Rattle.station.specs.declared.station.Payload.the-variants.{NoPayload, Of}
 use Rattle.station.specs.declared.station.Answer.{Answer}
-use Rattle.station.specs.declared.rules.heard.Stored.{Stored}
 
 -- ---- 1. checks
 
@@ -90,6 +90,11 @@ unfoldable pub nothingMore : Station → ℕ → ℕ → Bool
 nothingMore s to k = stops (s .own) (s .turn) to k
 
 -- ---- 5. the number is recorded as handled, and a frame is sent with the next number
+
+-- a station after storing a heard frame, and the message that was stored
+pub record Stored : Type 0 where
+  pub station : Station
+  pub payload : Payload
 
 -- the message of a heard information frame: its other end is the sender; in the lowest free place
 abbrev pub heardMessage : Station → ℕ → InformationFrame → Message

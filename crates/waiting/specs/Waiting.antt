@@ -3,12 +3,13 @@
 use mathlib.Core.Path.{_≡_}
 use mathlib.Core.Bool.{Bool, true, false, _&&_}
 use mathlib.Core.List.{List, [], _∷_, _++_, List·Memᴰ}
-use Prim.Native.Nat.{ℕ, suc, _+_, _*_, _<_, _≤_}
+use Prim.Native.Nat.{ℕ, suc, _+_, _*_, _-_, _<_, _≤_}
 use lib.Dec.{eqb}
 use lib.ListN.{length}
 use Rattle.parts.specs.Choose.{pick}
 use Rattle.parts.specs.Messages.{all, flies, lowestFree}
 use Rattle.parts.specs.Frames.{flight}
+use Rattle.plain_rules.specs.Round.{informationOf}
 use Rattle.station.specs.Stations.{awaitedOf}
 use Rattle.parts.specs.declared.list.Message.{Message}
 use Rattle.parts.specs.declared.request.Request.{Request}
@@ -16,12 +17,13 @@ use Rattle.bench.specs.Ring.{stationAt, ringWith}
 use Rattle.bench.specs.Delivery.{step}
 use Rattle.bench.specs.Calls.{queue}
 use Rattle.bench.specs.Rows.{rowsOn}
-use Rattle.bench.specs.Runs.{Event, stepped, queued, afterEvent, final}
+use Rattle.bench.specs.Runs.{Event, stepped, queued, afterEvent, final, frames, stepping}
 use Rattle.bench.specs.declared.ring.Wire.{Wire}
 use Rattle.bench.specs.declared.ring.Bench.{Bench}
 use Rattle.bench.specs.declared.rows.Row.{Row}
 use Rattle.bench.specs.declared.rows.Kind.{Kind}
 use Rattle.bench.specs.declared.rows.Kind.the-variants.{T, G, I}
+use Rattle.bench_theorems.specs.Counting.{stepsIn}
 
 -- ---- the message
 
@@ -52,6 +54,15 @@ unfoldable pub goes : Spot → Bench → List Event → Bool
 goes x b [] = false
 goes x b (stepped ∷ es) = pick (own x (step b .wire)) true (goes x (step b) es)
 goes x b (queued from q ∷ es) = goes x (afterEvent b (queued from q)) es
+
+-- where it goes: the step that composes its own frame, and none before it has
+pub record GoesAt (x : Spot) (b : Bench) (after : List Event) : Type 0 where
+  pub first : List Event
+  pub rest : List Event
+  pub splits : after ≡ first ++ (stepped ∷ rest)
+  pub not-earlier : goes x b first ≡ false
+  pub its-own : own x (step (final b first) .wire) ≡ true
+  pub counted : before x b after ≡ frames b first
 
 -- ---- what is asked of it
 
@@ -106,13 +117,25 @@ octetsOnWire (r ∷ rs) = r .octets + octetsOnWire rs
 abbrev pub atQueue : ℕ → ℕ → List Event → Bench
 atQueue n limit es = final (ringWith n limit) es
 
--- what demand 3 promises of a run `after` the acceptance
+-- the figures, of a run `after` the acceptance
 pub record WithinBound (n : ℕ) (x : Spot) (b : Bench) (after : List Event) : Type 0 where
   pub short-frames : shorts (before x b after) ≤ 2 * n + 1
   pub information-frames : informations (before x b after) ≤ 1
   pub octets : octetsOnWire (before x b after) ≤ (2 * n + 1) * 72 + 1526
   -- "no later than the (2N+3)th frame composed after acceptance"
   pub not-later : length (before x b after) + 1 ≤ 2 * n + 3
+
+-- all that demand 3 promises: the message m was accepted at the spot x, which left the bench b; `after` is what comes then
+pub record Bound (n : ℕ) (x : Spot) (m : Message) (b : Bench) (after : List Event) : Type 0 where
+  -- short frames, information frames and octets before its own, and which frame its own is
+  pub within : WithinBound n x b after
+  -- its own is composed, once so many frames are
+  pub it-goes : 2 * n + 3 ≤ stepsIn after → goes x b after ≡ true
+  -- in every state before that the message is in the send list of its station, and waits
+  pub waits-until : (es rest : List Event) → after ≡ es ++ rest → goes x b es ≡ false → Waits (final b es) (x .station) m
+  -- the frame that is its own is the message's information frame, from its station to its destination
+  pub own-frame : (es rest : List Event) → after ≡ es ++ (stepped ∷ rest) → goes x b es ≡ false → own x (step (final b es) .wire) ≡ true
+      → (number : ℕ) × (step (final b es) .wire ≡ record { from = x .station; sent = informationOf number m })
 
 -- "for every N from 3 up some run reaches both figures"
 abbrev pub fewest : ℕ
@@ -132,3 +155,20 @@ pub record ReachesBound (n : ℕ) (x : Spot) (b : Bench) (after : List Event) : 
   pub information-frames : informations (before x b after) ≡ 1
   pub octets : octetsOnWire (before x b after) ≡ (2 * n + 1) * 72 + 1526
   pub which : length (before x b after) + 1 ≡ 2 * n + 3
+
+-- a message from station 0 to 1 with priority 9 and no octets is accepted at the bench b, stays on top, and reaches the bound
+pub record Tight (n : ℕ) (b : Bench) : Type 0 where
+  pub accepted : queue b 0 itsRequest .number ≡ 0
+  pub stays : StaysOnTop (spotFor b 0) 9 (queue b 0 itsRequest .bench) (stepping (2 * n + 3))
+  pub reaches : ReachesBound n (spotFor b 0) (queue b 0 itsRequest .bench) (stepping (2 * n + 3))
+
+-- the foreign message is queued at the last station
+abbrev pub foreignQueued : ℕ → List Event
+foreignQueued n = queued (n - 1) foreignRequest ∷ []
+
+-- for N = 3: the frames before the message's own in that run
+abbrev pub benchOfThree : ℕ → Bench
+benchOfThree limit = atQueue 3 limit (foreignQueued 3)
+
+abbrev pub rowsOfThree : ℕ → List Row
+rowsOfThree limit = before (spotFor (benchOfThree limit) 0) (queue (benchOfThree limit) 0 itsRequest .bench) (stepping 9)

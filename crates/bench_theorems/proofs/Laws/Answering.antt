@@ -19,7 +19,7 @@ use Rattle.station.specs.declared.station.Turn.{Turn}
 use Rattle.station.specs.declared.station.Station.{Station}
 use Rattle.station.specs.declared.station.Answer.{Answer}
 use Rattle.plain_rules.specs.declared.round.Sight.{Sight}
-use Rattle.station_theorems.proofs.Laws.Sound.{WholeStation}
+use Rattle.station_theorems.specs.Shaped.{WholeStation}
 use Rattle.station_theorems.proofs.Theorems.FrameWhole.{frame-keeps-whole}
 use Rattle.bench_theorems.specs.Quiet.{Member}
 use Rattle.bench_theorems.proofs.Laws.FullSet.{full-successor}

@@ -24,9 +24,10 @@ use Rattle.parts.specs.declared.frame.Dispatch.{Dispatch}
 use Rattle.parts.specs.declared.frame.Dispatch.the-variants.{Nothing, Sent}
 use Rattle.station.specs.declared.station.Station.{Station}
 use Rattle.parts.proofs.Laws.Messages.{best-none, best-more, only-none, only-one, only-not, better-unfit}
+use Rattle.station_theorems.specs.Shaped.{WholeStation}
 use Rattle.station_theorems.proofs.Laws.Kept.{pack-all}
 use Rattle.station_theorems.proofs.Laws.Based.{idle-flight}
-use Rattle.station_theorems.proofs.Laws.Sound.{WholeStation, whole-sound}
+use Rattle.station_theorems.proofs.Laws.Sound.{whole-sound}
 use Rattle.bench_theorems.proofs.Laws.Listening.{Listens, idle, waits, acknowledged-by, idle-stays}
 
 -- the message at the place p is in flight

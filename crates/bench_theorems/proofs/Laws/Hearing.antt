@@ -15,7 +15,7 @@ use Rattle.parts.specs.Frames.{numberOf, failingOf, fit}
 use Rattle.station.specs.Stations.{stateOf, withReceives, withLost, addUpTo}
 use Rattle.station.specs.Round.{sight}
 use Rattle.plain_rules.specs.Round.{reply}
-use Rattle.station.specs.Heard.{acknowledge, isLast, nothingMore, heardMessage, receive, stored, sendOn, silent, respond, frameRule, checks}
+use Rattle.station.specs.Heard.{Stored, acknowledge, isLast, nothingMore, heardMessage, receive, stored, sendOn, silent, respond, frameRule, checks}
 use Rattle.plain_rules.specs.Refusals.{heardRefusal}
 use Rattle.parts.specs.declared.moves.State.the-variants.{Idle}
 use Rattle.parts.specs.declared.list.Message.{Message}
@@ -24,7 +24,6 @@ use Rattle.parts.specs.declared.frame.Frame.{Frame}
 use Rattle.parts.specs.declared.frame.Frame.the-variants.{Token, Transmit, Information}
 use Rattle.station.specs.declared.station.Station.{Station}
 use Rattle.station.specs.declared.station.Payload.the-variants.{NoPayload, Of}
-use Rattle.station.specs.declared.rules.heard.Stored.{Stored}
 use Rattle.station.proofs.Laws.Heard.{responds, handles, hears, frame-runs}
 use Rattle.bench.specs.Delivery.{isNobody}
 use Rattle.bench.proofs.Laws.StandsBy.{unharmed, failed-nobody, respond-elsewhere}

@@ -25,9 +25,9 @@ use Rattle.parts.specs.declared.request.Request.{Request}
 use Rattle.station.specs.declared.station.Station.{Station}
 use Rattle.parts.proofs.Laws.Messages.{best-none, best-more}
 use Rattle.plain_rules.proofs.Laws.Queue.{queue-good}
+use Rattle.station_theorems.specs.Shaped.{WholeStation}
 use Rattle.station_theorems.proofs.Laws.Kept.{push-all}
 use Rattle.station_theorems.proofs.Laws.Carried.{best-append}
-use Rattle.station_theorems.proofs.Laws.Sound.{WholeStation}
 use Rattle.bench_theorems.specs.Quiet.{headPriority}
 
 -- ---- a message more in the send list

@@ -15,7 +15,7 @@ use Rattle.parts.specs.declared.request.Request.{Request}
 use Rattle.station.specs.declared.station.Turn.{Turn}
 use Rattle.station.specs.declared.station.Station.{Station}
 use Rattle.station.specs.declared.station.Answer.{Answer}
-use Rattle.station_theorems.proofs.Laws.Sound.{WholeStation}
+use Rattle.station_theorems.specs.Shaped.{WholeStation}
 use Rattle.station_theorems.proofs.Theorems.QueueWhole.{queue-keeps-whole}
 use Rattle.bench.specs.Ring.{nobody, stationAt}
 use Rattle.bench.specs.Calls.{withStation, queueAt, queue}

@@ -23,7 +23,7 @@ use Rattle.station.specs.declared.station.Handled.the-variants.{Never}
 use Rattle.station.specs.declared.station.Answer.{Answer}
 use Rattle.parts.proofs.Laws.Choose.{pick-true, pick-false}
 use Rattle.station.proofs.Laws.Moved.{moved-runs}
-use Rattle.station_theorems.proofs.Laws.Sound.{WholeStation}
+use Rattle.station_theorems.specs.Shaped.{WholeStation}
 use Rattle.station_theorems.proofs.Theorems.MadeWhole.{made-whole}
 use Rattle.station_theorems.proofs.Theorems.StartWhole.{start-keeps-whole}
 use Rattle.bench.specs.Ring.{firstAnswer}

@@ -8,23 +8,17 @@ use lib.ListN.{length, length-append}
 use Rattle.parts.specs.declared.frame.Frame.{Frame}
 use Rattle.parts.specs.declared.frame.Dispatch.the-variants.{Sent}
 use Rattle.bench.specs.Ring.{ringWith}
-use Rattle.bench.specs.Delivery.{deliver, step}
+use Rattle.bench.specs.Delivery.{step}
 use Rattle.bench.specs.Rows.{rowOn, rowsOn}
 use Rattle.bench.specs.Runs.{Event, stepped, queued, afterEvent, composed, final, frames, stepping}
 use Rattle.bench.specs.declared.ring.Wire.{Wire}
 use Rattle.bench.specs.declared.ring.Bench.{Bench}
 use Rattle.bench_theorems.specs.Quiet.{Quiet}
 use Rattle.bench_theorems.specs.Counting.{stepsIn}
+use Rattle.bench_theorems.specs.FramesComposed.{Delivers}
 use Rattle.bench_theorems.proofs.Laws.Delivering.{step-delivers, step-wire}
 use Rattle.bench_theorems.proofs.Laws.Ringing.{quiet-start}
 use Rattle.bench_theorems.proofs.Theorems.ReachedQuiet.{quiet-event, reached-quiet}
-
--- the frame on the wire, and what a step does with it
-pub record Delivers (b : Bench) : Type 0 where
-  pub frame : Frame
-  pub to : ℕ
-  pub on-wire : b .wire .sent ≡ Sent frame to
-  pub delivers : step b ≡ deliver b frame to
 
 pub step-is-delivery : (n limit : ℕ) → 2 ≤ n → n ≤ 64 → 1 ≤ limit → limit ≤ 15 → (es : List Event) → Delivers (final (ringWith n limit) es)
 step-is-delivery n limit two most low high es =

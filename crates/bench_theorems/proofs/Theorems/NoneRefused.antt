@@ -19,17 +19,16 @@ use Rattle.parts.specs.declared.moves.State.{State}
 use Rattle.parts.specs.declared.moves.Event.the-variants.{Queue}
 use Rattle.parts.specs.declared.live.Live.{Live}
 use Rattle.parts.specs.declared.frame.Frame.{Frame}
-use Rattle.parts.specs.declared.frame.Dispatch.the-variants.{Sent}
 use Rattle.parts.specs.declared.request.Request.{Request}
 use Rattle.station.specs.declared.station.Station.{Station}
 use Rattle.station.specs.declared.station.Answer.{Answer}
 use Rattle.station.proofs.Laws.Moved.{moved-runs}
 use Rattle.bench.specs.Ring.{stationAt, ringWith}
-use Rattle.bench.specs.Calls.{queue}
 use Rattle.bench.specs.Runs.{Event, final}
 use Rattle.bench.specs.declared.ring.Bench.{Bench}
 use Rattle.bench.specs.declared.calls.Queued.{Queued}
 use Rattle.bench.proofs.Laws.Calls.{queue-outside, queue-inside}
+use Rattle.bench_theorems.specs.NoneRefused.{NoneRefused, OwnNumber}
 use Rattle.bench_theorems.specs.Quiet.{Member, Stands, sender, last-sender, at-rest, Picture, Quiet}
 use Rattle.bench_theorems.proofs.Laws.FullSet.{seats-most, full-live}
 use Rattle.bench_theorems.proofs.Laws.Answers.{Role, sends, answers, overhears, role, silent-at, answer-at}
@@ -37,12 +36,6 @@ use Rattle.bench_theorems.proofs.Laws.Started.{begun}
 use Rattle.bench_theorems.proofs.Theorems.ReachedQuiet.{reached-quiet, reached-n}
 
 -- ---- frames
-
-pub record NoneRefused (n : ℕ) (b : Bench) : Type 0 where
-  pub frame : Frame
-  pub to : ℕ
-  pub on-wire : b .wire .sent ≡ Sent frame to
-  pub heard : (p : ℕ) → p < n → (p ≡ b .wire .from → ⊥) → frameRule (stationAt b p) frame (b .wire .from) to .number ≡ 0
 
 heard-number : {n limit : ℕ} {at : ℕ → Station} {from : ℕ} {f : Frame} {to : ℕ} → Picture n limit at from f to → (p : ℕ) → p < n → (p ≡ from → ⊥)
     → frameRule (at p) f from to .number ≡ 0
@@ -70,10 +63,6 @@ pub no-start-refused : (n limit : ℕ) → 2 ≤ n → n ≤ 64 → 1 ≤ limit 
 no-start-refused n limit two most low high p h = begun n limit two most low high p h .number
 
 -- ---- queue calls
-
-pub record OwnNumber (n : ℕ) (b : Bench) (from : ℕ) (r : Request) : Type 0 where
-  pub outside : n ≤ from → queue b from r .number ≡ 15
-  pub inside : from < n → queue b from r .number ≡ queueRefusal n from true (stationAt b from .sends .len) r
 
 unless-number : (s : Station) (k : ℕ) (a : Answer) → a .number ≡ 0 → unless s k a .number ≡ k
 unfolding unless pick

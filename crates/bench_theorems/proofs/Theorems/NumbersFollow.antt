@@ -5,10 +5,8 @@ use mathlib.Core.List.{List, [], _∷_}
 use Prim.Native.Nat.{ℕ, _+_, _%_, _^_, _≤_}
 use native.Mathlib.Nat.{mod-add-mod}
 use native.Mathlib.Omega.{arith}
-use Rattle.parts.specs.Frames.{numberOf, next}
-use Rattle.parts.specs.declared.frame.Frame.{Frame}
+use Rattle.parts.specs.Frames.{next}
 use Rattle.parts.specs.declared.frame.Dispatch.{Dispatch}
-use Rattle.parts.specs.declared.frame.Dispatch.the-variants.{Sent}
 use Rattle.bench.specs.Ring.{ringWith}
 use Rattle.bench.specs.Delivery.{step}
 use Rattle.bench.specs.Runs.{Event, stepped, queued, afterEvent, final}
@@ -16,20 +14,11 @@ use Rattle.bench.specs.declared.ring.Wire.{Wire}
 use Rattle.bench.specs.declared.ring.Bench.{Bench}
 use Rattle.bench_theorems.specs.Quiet.{Quiet}
 use Rattle.bench_theorems.specs.Counting.{stepsIn, numberIn, wireNumber}
+use Rattle.bench_theorems.specs.NumbersFollow.{Follows}
 use Rattle.bench_theorems.proofs.Laws.Delivering.{reply-in, step-wire}
 use Rattle.bench_theorems.proofs.Laws.Queueing.{queue-wire}
 use Rattle.bench_theorems.proofs.Laws.Ringing.{first-wire, quiet-start}
 use Rattle.bench_theorems.proofs.Theorems.ReachedQuiet.{quiet-event, reached-quiet}
-
--- a frame is on the wire, and after a step the one that follows it
-pub record Follows (b : Bench) : Type 0 where
-  pub frame : Frame
-  pub to : ℕ
-  pub on-wire : b .wire .sent ≡ Sent frame to
-  pub new-frame : Frame
-  pub new-to : ℕ
-  pub then-on-wire : step b .wire .sent ≡ Sent new-frame new-to
-  pub follows : numberOf new-frame ≡ next (numberOf frame)
 
 quiet-follows : {limit : ℕ} (b : Bench) → Quiet limit b → Follows b
 quiet-follows b q =

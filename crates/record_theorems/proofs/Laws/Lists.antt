@@ -12,10 +12,10 @@ use Rattle.parts.specs.declared.list.Message.{Message}
 use Rattle.parts.specs.declared.list.Messages.{Messages}
 use Rattle.records.specs.Layout.{itemsIn, listLength, messageLength}
 use Rattle.records.specs.Fields.{messageAt, messageOctets, itemAt, itemsAt, messagesAt, itemsOctets, messagesOctets}
+use Rattle.record_theorems.specs.Typed.{TypedMessage, TypedList}
 use Rattle.record_theorems.proofs.Laws.Goes.{Goes, goes-join, goes-first, goes-second, goes-number}
 use Rattle.record_theorems.proofs.Laws.Numbers.{Field, numbers-read, numbers-written}
 use Rattle.record_theorems.proofs.Laws.Rows.{row-written, row-item, tab-is}
-use Rattle.record_theorems.proofs.Laws.Typed.{TypedMessage, TypedList}
 
 abbrev messageFields : Message → List Field
 messageFields m = (1, m .other) ∷ (1, m .priority) ∷ (1, m .channel) ∷ (1, m .place) ∷ (2, m .length) ∷ []

@@ -9,7 +9,7 @@ use lib.Dec.{eqb}
 use lib.ListN.{length, length-append}
 use lib.Seq.{drop-at, drop-length}
 use Rattle.codec.specs.Order.{firstOf}
-use Rattle.codec.specs.Ring.{Ring, RingRead, readRing}
+use Rattle.codec.specs.Ring.{RingRead, readRing}
 use Rattle.codec.proofs.Laws.Order.{NoneHolds}
 use Rattle.wholeness.specs.Whole.{whole, listsGood, listGood}
 use Rattle.station.specs.declared.station.Station.{Station}
@@ -18,8 +18,9 @@ use Rattle.records.specs.Fields.{turnGood, flagsGood}
 use Rattle.records.specs.Record.{Loaded, stationOctets, fileOf, ringFrom, padGood, stationFrom, stationOf, fieldsGood, notWhole, readRecord}
 use Rattle.parts.proofs.Laws.Tests.{held}
 use Rattle.records.proofs.Laws.Load.{wholeOf, record-good}
+use Rattle.record_theorems.specs.RoundTrip.{OfRing, ReadsAs}
+use Rattle.record_theorems.specs.Typed.{Typed}
 use Rattle.record_theorems.proofs.Laws.Goes.{Goes}
-use Rattle.record_theorems.proofs.Laws.Typed.{Typed}
 use Rattle.parts.proofs.Laws.Tests.{hold}
 use Rattle.record_theorems.proofs.Laws.Front.{front-file, front-pad}
 use Rattle.record_theorems.proofs.Laws.Stations.{StationRead, station-reads, length-station}
@@ -74,10 +75,9 @@ parts-read s p = record-good s (p .sized) (p .ring) (hold _ (p .pad, (p .turn, (
 
 -- ---- a record that reads as a station
 
--- a station's N and R are its ring's
-pub record OfRing (r : Ring) (s : Station) : Type 0 where
-  pub n-same : s .n ≡ r .n
-  pub limit-same : s .limit ≡ r .limit
+pub reads-as : (rec : List ℕ) (q : RingRead) (s : Station) → readRecord rec ≡ wholeOf q s → ReadsAs rec (q .ring) s
+reads-as rec q s e =
+    record { ok = ap (λ (l : Loaded). l .ok) e; ring = ap (λ (l : Loaded). l .ring) e; station = ap (λ (l : Loaded). l .station) e }
 
 -- a whole station's lists have at most 16 messages
 few : (s : Station) → whole s ≡ true → (s .sends .len < 256) × (s .receives .len < 256)

@@ -21,7 +21,7 @@ use Rattle.station.specs.declared.station.Handled.the-variants.{Never, Last}
 use Rattle.records.specs.Fields.{stateFrom, handledFlag, handledNumber, handledFrom, whomNumber, whomFrom, slipTo, slipOf, dispatchFrom, sameSlip}
 use Rattle.records.specs.declared.slip.Slip.{Slip}
 use Rattle.parts.proofs.Laws.Tests.{held, hold}
-use Rattle.record_theorems.proofs.Laws.Typed.{TypedWhom, TypedDispatch, TypedHandled}
+use Rattle.record_theorems.specs.Typed.{TypedWhom, TypedDispatch, TypedHandled}
 use Rattle.record_theorems.proofs.Laws.Numbers.{Field, Fit}
 
 -- ---- the state and the handled number

@@ -11,12 +11,12 @@ use Rattle.records.specs.Layout.{ownAt, lostAt, givenUpAt, liveAt, sendsAt, rec
 use Rattle.records.specs.Fields.{turnAt, turnGood, turnOctets, liveFrom, flagsGood, liveOctets, messagesAt, messagesOctets}
 use Rattle.records.specs.Record.{countsOctets, countsAt, headOctets, listsOctets, stationOctets, stationFrom}
 use Rattle.records.proofs.Laws.Sizes.{length-head, length-list}
+use Rattle.record_theorems.specs.Typed.{Typed}
 use Rattle.record_theorems.proofs.Laws.Goes.{Goes, goes-join, goes-first, goes-second}
 use Rattle.record_theorems.proofs.Laws.Numbers.{numbers-read, numbers-written}
 use Rattle.record_theorems.proofs.Laws.Turns.{TurnRead, turn-written, turn-reads}
 use Rattle.record_theorems.proofs.Laws.Flags.{LiveRead, live-written, live-reads}
 use Rattle.record_theorems.proofs.Laws.Lists.{list-written, list-reads}
-use Rattle.record_theorems.proofs.Laws.Typed.{Typed}
 
 pub length-station : (s : Station) → Typed s → length (stationOctets s) ≡ recordLength - ownAt
 length-station s t =

@@ -17,9 +17,9 @@ use Rattle.records.specs.Layout.{ownAt, stateAt, retriesAt, handledAt, handledN
 use Rattle.records.specs.Fields.{stateFrom, stateGood, handledFlag, handledNumber, handledFrom, handledGood, slipOf, dispatchFrom, slipGood, slipAt, turnAt, turnGood, turnOctets}
 use Rattle.records.specs.declared.slip.Slip.{Slip}
 use Rattle.parts.proofs.Laws.Tests.{held}
+use Rattle.record_theorems.specs.Typed.{TypedTurn}
 use Rattle.record_theorems.proofs.Laws.Goes.{Goes}
 use Rattle.record_theorems.proofs.Laws.Numbers.{Field, octetsOf, Reads, numbers-read, numbers-written}
-use Rattle.record_theorems.proofs.Laws.Typed.{TypedTurn}
 use Rattle.parts.proofs.Laws.Tests.{hold}
 use Rattle.record_theorems.proofs.Laws.Slips.{state-back, state-fits, handled-back, flag-fits, handled-fits, dispatch-back, slipFields, slip-fits, same-slip, slip-same}
 

@@ -14,11 +14,11 @@ use Rattle.station.specs.declared.station.Station.{Station}
 use Rattle.records.specs.Layout.{ringRoom, ownAt}
 use Rattle.records.specs.Record.{Loaded, stationOctets, fileOf, padGood, readRecord}
 use Rattle.records.proofs.Laws.Load.{wholeOf}
+use Rattle.record_theorems.specs.RoundTrip.{OfRing, ReadsAs}
+use Rattle.record_theorems.specs.Typed.{Typed}
 use Rattle.record_theorems.proofs.Laws.Front.{front-file, front-pad}
 use Rattle.record_theorems.proofs.Laws.Stations.{length-station}
-use Rattle.record_theorems.proofs.Laws.Reading.{parts, parts-read, OfRing, front-reads}
-use Rattle.record_theorems.proofs.Laws.Typed.{Typed}
-use Rattle.record_theorems.proofs.Theorems.ReadWrite.{ReadsAs, reads-as}
+use Rattle.record_theorems.proofs.Laws.Reading.{parts, parts-read, reads-as, front-reads}
 
 pub read-anew : (rec : List ℕ) (s : Station) → readRecord rec .ok ≡ true → OfRing (readRecord rec .ring) s → whole s ≡ true → Typed s
     → ReadsAs (laid rec ownAt (stationOctets s)) (readRecord rec .ring) s

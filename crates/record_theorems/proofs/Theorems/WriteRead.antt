@@ -14,6 +14,7 @@ use Rattle.codec.proofs.Theorems.RingFile.{file-again}
 use Rattle.records.specs.Layout.{ringRoom, ownAt, recordLength}
 use Rattle.records.specs.Record.{Loaded, stationOctets, ringOctets, recordOctets, fileLength, fileOf, ringFrom, stationOf, readRecord}
 use Rattle.records.proofs.Laws.Load.{wholeOf, file-room, length-file}
+use Rattle.record_theorems.specs.RoundTrip.{WrittenAgain}
 use Rattle.record_theorems.proofs.Laws.Goes.{Goes, goes-join}
 use Rattle.record_theorems.proofs.Laws.Front.{zeros-stand}
 use Rattle.record_theorems.proofs.Laws.Stations.{station-written}
@@ -49,15 +50,6 @@ module _ (rec : List ℕ) (o : Octets rec) (p : Parts rec) where
       sym (all ∙ ap (λ (l : List ℕ). recordOctets file (stationOf rec) ++ l) (drop-of-length-le rec {i = recordLength} (omega (arith, p .sized))) ∙ append-nil (recordOctets file (stationOf rec)))
 
 -- ---- the theorem
-
-pub record WrittenAgain (rec : List ℕ) : Type 0 where
-  -- the record holds a good ring file, of the ring that it reads as
-  pub file-good : readRing (fileOf rec) .number ≡ 0
-  pub file-ring : readRing (fileOf rec) .ring ≡ readRecord rec .ring
-  -- and is written of it and of the station
-  pub again : recordOctets (fileOf rec) (readRecord rec .station) ≡ rec
-  -- and so of what is read alone
-  pub again-of-ring : recordOctets (ringFile (readRecord rec .ring)) (readRecord rec .station) ≡ rec
 
 pub write-after-read : (rec : List ℕ) → Octets rec → readRecord rec .ok ≡ true → WrittenAgain rec
 write-after-read rec o ok =

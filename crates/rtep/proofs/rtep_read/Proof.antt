@@ -14,7 +14,10 @@ refusal-of-requires c κs = search needs
 returns : tie.Need-returns
 returns c =
     let e = c .before .refusal-of .ensures in
-    (e, sym (ap (λ (r : Read). readTold r (c .before .before .before .before .args .told .now)) (read-refused _ _ _ e (c .if1 .taken))))
+    record {
+      answer = e;
+      told-is = sym (ap (λ (r : Read). readTold r (c .before .before .before .before .args .told .now)) (read-refused _ _ _ e (c .if1 .taken)));
+    }
 
 values-in-requires : tie.Need-values-in-requires
 values-in-requires c κs = read-long _ _ (sym (c .before .refusal-of .ensures) ∙ c .if1 .left)
@@ -22,11 +25,11 @@ values-in-requires c κs = read-long _ _ (sym (c .before .refusal-of .ensures) �
 returns-2 : tie.Need-returns-2
 returns-2 c =
     let z : 0 ≡ readNumber (readPacket (c .before .before .before .before .before .args .ring .now) (c .before .before .before .before .before .args .packet .now)) =
-    sym (c .before .if1 .left) ∙ c .before .before .refusal-of .ensures in (
-      z,
-      c .values-in .ensures
-          ∙ sym (ap (λ (r : Read). readTold r (c .before .before .before .before .before .args .told .now)) (read-good _ _ (sym z))),
-    )
+    sym (c .before .if1 .left) ∙ c .before .before .refusal-of .ensures in
+    record {
+      answer = z;
+      told-is = c .values-in .ensures ∙ sym (ap (λ (r : Read). readTold r (c .before .before .before .before .before .args .told .now)) (read-good _ _ (sym z)));
+    }
 
 pub rtep-read-spec : {M : Type 1} → statement M
 rtep-read-spec = tie.close (tie.spec refusal-of-requires returns values-in-requires returns-2)

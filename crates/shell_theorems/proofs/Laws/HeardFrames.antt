@@ -22,7 +22,7 @@ use Rattle.parts.specs.Choose.{pick}
 use Rattle.parts.specs.Frames.{fit, memberOrNobody}
 use Rattle.parts.specs.declared.frame.Whom.the-variants.{Nobody, Member}
 use Rattle.parts.specs.declared.frame.Frame.{Frame}
-use Rattle.station_theorems.proofs.Laws.Small.{SmallFrame}
+use Rattle.station_theorems.specs.Small.{SmallFrame}
 use Rattle.shell.specs.Packets.{whomAt, frameOf}
 
 -- ---- a member's place is in the ring

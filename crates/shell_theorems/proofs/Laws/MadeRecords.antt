@@ -15,7 +15,7 @@ use Rattle.station.specs.declared.station.Station.{Station}
 use Rattle.records.specs.Layout.{recordLength}
 use Rattle.records.specs.Record.{Loaded, stationOctets, ringOctets, recordOctets, fileOf, readRecord}
 use Rattle.records.proofs.Laws.Sizes.{length-ring}
-use Rattle.record_theorems.proofs.Laws.Typed.{Typed}
+use Rattle.record_theorems.specs.Typed.{Typed}
 use Rattle.record_theorems.proofs.Laws.Front.{file-fits}
 use Rattle.record_theorems.proofs.Laws.Stations.{length-station}
 use Rattle.shell.proofs.Laws.Calls.{whole-record, length-filled}

@@ -22,13 +22,14 @@ use Rattle.parts.specs.declared.frame.Dispatch.the-variants.{Nothing, Sent}
 use Rattle.station.specs.declared.station.Handled.{Handled}
 use Rattle.station.specs.declared.station.Handled.the-variants.{Never, Last}
 use Rattle.station.specs.declared.station.Station.{Station}
+use Rattle.station_theorems.specs.Shaped.{WholeStation}
+use Rattle.station_theorems.specs.Small.{Small, SmallList, SmallDispatch, SmallHandled, SmallFrame, smallMessage}
+use Rattle.station_theorems.specs.GoodList.{GoodList, GoodMessage}
+use Rattle.station_theorems.specs.Awaited.{Awaited, Proper, Carries}
+use Rattle.station_theorems.specs.Whole.{Whole}
 use Rattle.station_theorems.proofs.Laws.Members.{standing, each-member}
-use Rattle.station_theorems.proofs.Laws.Sound.{WholeStation}
-use Rattle.station_theorems.proofs.Laws.Small.{Small, SmallList, SmallDispatch, SmallHandled, SmallFrame, smallMessage}
-use Rattle.station_theorems.proofs.Theorems.GoodList.{GoodList, GoodMessage}
-use Rattle.station_theorems.proofs.Theorems.Awaited.{Awaited, Proper, Carries}
-use Rattle.station_theorems.proofs.Theorems.Whole.{Whole, whole-is}
-use Rattle.record_theorems.proofs.Laws.Typed.{TypedMessage, TypedList, TypedWhom, TypedToken, TypedTransmit, TypedInformation, TypedFrame, TypedDispatch, TypedHandled, TypedTurn, Typed}
+use Rattle.station_theorems.proofs.Theorems.Whole.{whole-is}
+use Rattle.record_theorems.specs.Typed.{TypedMessage, TypedList, TypedWhom, TypedToken, TypedTransmit, TypedInformation, TypedFrame, TypedDispatch, TypedHandled, TypedTurn, Typed}
 
 -- ---- a list
 

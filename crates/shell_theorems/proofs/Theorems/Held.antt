@@ -14,7 +14,6 @@ use Rattle.codec.specs.Ring.{Ring, RingRead, readRing, position, ringOf, count,
 use Rattle.packet_codec.specs.declared.reading.Read.{Read}
 use Rattle.packet_codec.specs.declared.reading.Read.the-variants.{Refused, Good}
 use Rattle.parts.specs.declared.moves.Event.the-variants.{Heard}
-use Rattle.parts.specs.declared.request.Request.{Request}
 use Rattle.parts.specs.Frames.{fit}
 use Rattle.station.specs.Stations.{answered, moved, unless}
 use Rattle.station.specs.Start.{startRule}
@@ -24,41 +23,29 @@ use Rattle.station.specs.Queue.{queueRule}
 use Rattle.station.specs.Take.{takeRule}
 use Rattle.station.specs.declared.station.Station.{Station}
 use Rattle.station.specs.declared.station.Answer.{Answer}
-use Rattle.station_theorems.proofs.Laws.Sound.{WholeStation}
-use Rattle.station_theorems.proofs.Laws.Small.{Small, pick-keeps}
+use Rattle.station_theorems.specs.Shaped.{WholeStation}
+use Rattle.station_theorems.specs.Small.{Small}
+use Rattle.station_theorems.proofs.Laws.Small.{pick-keeps}
 use Rattle.station_theorems.proofs.Theorems.StaysSmall.{start-keeps-small, frame-small, timer-small, queue-small, take-small, made-small}
 use Rattle.station_theorems.proofs.Theorems.MadeWhole.{made-whole}
 use Rattle.station_theorems.proofs.Theorems.Reached.{calls-keep-whole}
 use Rattle.records.specs.Layout.{recordLength, ringRoom, ownAt}
 use Rattle.records.specs.Record.{stationOctets, ringOctets, recordOctets, readRecord}
-use Rattle.record_theorems.proofs.Laws.Typed.{Typed}
-use Rattle.record_theorems.proofs.Theorems.ReadWrite.{ReadsAs, read-after-write}
+use Rattle.record_theorems.specs.Typed.{Typed}
+use Rattle.record_theorems.specs.RoundTrip.{ReadsAs}
+use Rattle.record_theorems.proofs.Theorems.ReadWrite.{read-after-write}
 use Rattle.record_theorems.proofs.Theorems.Anew.{read-anew}
+use Rattle.parts.specs.declared.request.Request.{Request}
 use Rattle.shell.specs.Packets.{frameOf}
-use Rattle.shell.specs.Calls.{membersOf, ringIn, stationIn, recordWith, madeFrom, Making, Starting, Hearing, Timing, Queueing, Taking, frameAnswer, heardThen, packetRule}
+use Rattle.shell.specs.Calls.{membersOf, ringIn, stationIn, recordWith, madeFrom, Making, Starting, Hearing, Timing, Queueing, Taking, startAnswer, timerAnswer, frameAnswer, queueAnswer, takeAnswer, heardThen, packetRule}
+use Rattle.shell_theorems.specs.Held.{Held, Sure, by-make, by-start, by-frame, by-timer, by-queue, by-take}
 use Rattle.shell_theorems.proofs.Laws.WholeTyped.{whole-typed}
 use Rattle.shell_theorems.proofs.Laws.HeardFrames.{heard-fit}
 use Rattle.shell_theorems.proofs.Laws.MadeRecords.{good-making, laid-whole, length-record, members-count}
 
 -- ---- a record in a driver's hands: made, and then changed by calls alone, whatever number they give
 
-pub data Held : List ℕ → Type 0 where
-  by-make : (rec file : List ℕ) (own : ℕ) (rec′ : List ℕ) → Making rec file own 0 rec′ → Held rec′
-  by-start : (rec out told : List ℕ) (r : ℕ) (rec′ out′ told′ : List ℕ) → Held rec → Starting rec out told r rec′ out′ told′ → Held rec′
-  by-frame : (rec store : List ℕ) (from to : ℕ) (packet out told : List ℕ) (r : ℕ) (rec′ store′ out′ told′ : List ℕ) → Held rec → Octets packet
-      → Hearing rec store from to packet out told r rec′ store′ out′ told′ → Held rec′
-  by-timer : (rec store out told : List ℕ) (r : ℕ) (rec′ out′ told′ : List ℕ) → Held rec → Timing rec store out told r rec′ out′ told′ → Held rec′
-  by-queue : (rec store : List ℕ) (q : Request) (payload : List ℕ) (r : ℕ) (rec′ store′ : List ℕ) → Held rec
-      → Queueing rec store q payload r rec′ store′ → Held rec′
-  by-take : (rec store : List ℕ) (channel : ℕ) (room told : List ℕ) (r : ℕ) (rec′ room′ told′ : List ℕ) → Held rec
-      → Taking rec store channel room told r rec′ room′ told′ → Held rec′
-
 -- ---- what is known of it
-
-pub record Sure (rec : List ℕ) : Type 0 where
-  pub ok : readRecord rec .ok ≡ true
-  pub whole : WholeStation (stationIn rec)
-  pub small : Small (readRecord rec .ring .n) (readRecord rec .ring .limit) (stationIn rec)
 
 sure-of : (rec : List ℕ) (r : Ring) (s : Station) → ReadsAs rec r s → WholeStation s → Small (r .n) (r .limit) s → Sure rec
 sure-of rec r s a w k =
@@ -69,12 +56,14 @@ sure-of rec r s a w k =
     }
 
 -- another whole station of the same ring is written over it
-anew : (rec : List ℕ) (s : Station) → Sure rec → WholeStation s → Small (readRecord rec .ring .n) (readRecord rec .ring .limit) s → Sure (recordWith rec s)
-anew rec s h w k =
+pub anew-reads : (rec : List ℕ) (s : Station) → Sure rec → WholeStation s → Small (readRecord rec .ring .n) (readRecord rec .ring .limit) s
+    → ReadsAs (recordWith rec s) (readRecord rec .ring) s
+anew-reads rec s h w k =
     let r : Ring = readRecord rec .ring in
-    sure-of (recordWith rec s) r s
-    (read-anew rec s (h .ok) (record { n-same = k .n-is; limit-same = k .limit-is }) (w .is-whole) (whole-typed (r .n) (r .limit) s w k))
-    w k
+    read-anew rec s (h .ok) (record { n-same = k .n-is; limit-same = k .limit-is }) (w .is-whole) (whole-typed (r .n) (r .limit) s w k)
+
+anew : (rec : List ℕ) (s : Station) → Sure rec → WholeStation s → Small (readRecord rec .ring .n) (readRecord rec .ring .limit) s → Sure (recordWith rec s)
+anew rec s h w k = sure-of (recordWith rec s) (readRecord rec .ring) s (anew-reads rec s h w k) w k
 
 -- on a refusal it stays
 after-call : (rec rec′ : List ℕ) (r : ℕ) (s : Station) → Sure rec → rec′ ≡ kept r rec (recordWith rec s) → WholeStation s
@@ -87,8 +76,15 @@ after-call rec rec′ r s h e w k = subst Sure (sym e) (go (eqb r 0))
 
 -- ---- the calls
 
-made-sure : (rec file : List ℕ) (own : ℕ) (rec′ : List ℕ) → Making rec file own 0 rec′ → Sure rec′
-made-sure rec file own rec′ m =
+-- a record that is made reads as the file's ring and the made station, which is whole
+pub record Made (file : List ℕ) (own : ℕ) (rec : List ℕ) : Type 0 where
+  pub reads : ReadsAs rec (readRing file .ring) (madeFrom file own)
+  pub good-file : readRing file .number ≡ 0
+  pub whole : WholeStation (madeFrom file own)
+  pub small : Small (readRing file .ring .n) (readRing file .ring .limit) (madeFrom file own)
+
+pub made-reads : (rec file : List ℕ) (own : ℕ) (rec′ : List ℕ) → Making rec file own 0 rec′ → Made file own rec′
+made-reads rec file own rec′ m =
     let g = good-making rec file own (sym (m .answer)) in
     let r : Ring = readRing file .ring in
     let s : Station = madeFrom file own in
@@ -97,10 +93,15 @@ made-sure rec file own rec′ m =
     let t : Typed s = whole-typed (r .n) (r .limit) s w k in
     let read : ReadsAs (recordOctets file s) r s = read-after-write file s (g .good) (record { n-same = refl; limit-same = refl }) (w .is-whole) t in
     let e : rec′ ≡ recordOctets file s = m .record-is ∙ laid-whole rec (recordOctets file s) (g .sized ∙ sym (length-record file s (g .good) t)) in
-    subst Sure (sym e) (sure-of (recordOctets file s) r s read w k)
+    record { reads = subst (λ (x : List ℕ). ReadsAs x r s) (sym e) read; good-file = g .good; whole = w; small = k }
+
+made-sure : (rec file : List ℕ) (own : ℕ) (rec′ : List ℕ) → Making rec file own 0 rec′ → Sure rec′
+made-sure rec file own rec′ m =
+    let d = made-reads rec file own rec′ m in
+    sure-of rec′ (readRing file .ring) (madeFrom file own) (d .reads) (d .whole) (d .small)
 
 -- what a call's answer keeps
-abbrev Keeps : List ℕ → Answer → Type 0
+abbrev pub Keeps : List ℕ → Answer → Type 0
 Keeps rec a = WholeStation (a .station) × Small (readRecord rec .ring .n) (readRecord rec .ring .limit) (a .station)
 
 -- a heard packet is refused, or its frame is fit and of small numbers
@@ -114,32 +115,43 @@ read-sure rec h from to packet o (Good p) e =
     let fits : fit (s .n) (frameOf (ringIn rec) p) ≡ true = ap (λ (k : ℕ). fit k (frameOf (ringIn rec) p)) (sym n) ∙ f .fits in
     (calls-keep-whole s (h .whole) .frame (frameOf (ringIn rec) p) from to fits, frame-small _ _ s (frameOf (ringIn rec) p) from to (h .small) (f .small))
 
-frame-sure : (rec : List ℕ) → Sure rec → (from to : ℕ) (packet : List ℕ) → Octets packet → Keeps rec (frameAnswer rec from to packet)
+pub frame-sure : (rec : List ℕ) → Sure rec → (from to : ℕ) (packet : List ℕ) → Octets packet → Keeps rec (frameAnswer rec from to packet)
 unfolding packetRule moved unless
 frame-sure rec h from to packet o =
     let same : Keeps rec (answered (stationIn rec) 0) = (h .whole, h .small) in
     let read = read-sure rec h (position (ringIn rec) from) (position (ringIn rec) to) packet o (readPacket (ringIn rec) packet) refl in
     pick-keeps (Keeps rec) _ _ _ (pick-keeps (Keeps rec) _ _ _ read same) same
 
+pub start-sure : (rec : List ℕ) → Sure rec → Keeps rec (startAnswer rec)
+start-sure rec h = (calls-keep-whole _ (h .whole) .start, start-keeps-small _ _ _ (h .small))
+
+pub timer-sure : (rec : List ℕ) → Sure rec → Keeps rec (timerAnswer rec)
+timer-sure rec h = (calls-keep-whole _ (h .whole) .timer, timer-small _ _ _ (h .small))
+
+pub queue-sure : (rec : List ℕ) → Sure rec → (q : Request) → Keeps rec (queueAnswer rec q)
+queue-sure rec h q = (calls-keep-whole _ (h .whole) .queue q, queue-small _ _ _ q (h .small))
+
+pub take-sure : (rec : List ℕ) → Sure rec → (channel : ℕ) (room : List ℕ) → Keeps rec (takeAnswer rec channel room)
+take-sure rec h channel room =
+    (calls-keep-whole _ (h .whole) .take channel (length room), take-small _ _ _ channel (length room) (h .small))
+
+after-keeping : (rec rec′ : List ℕ) (r : ℕ) (a : Answer) → Sure rec → Keeps rec a → rec′ ≡ kept r rec (recordWith rec (a .station)) → Sure rec′
+after-keeping rec rec′ r a h k e = after-call rec rec′ r (a .station) h e (k .0) (k .1)
+
 pub held-sure : {rec : List ℕ} → Held rec → Sure rec
 held-sure (by-make rec file own rec′ m) = made-sure rec file own rec′ m
 held-sure (by-start rec out told r rec′ out′ told′ p m) =
     let h = held-sure p in
-    after-call rec rec′ r _ h (m .record-is) (calls-keep-whole _ (h .whole) .start) (start-keeps-small _ _ _ (h .small))
+    after-keeping rec rec′ r (startAnswer rec) h (start-sure rec h) (m .record-is)
 held-sure (by-frame rec store from to packet out told r rec′ store′ out′ told′ p o m) =
     let h = held-sure p in
-    let k = frame-sure rec h from to packet o in
-    after-call rec rec′ r _ h (m .sending .record-is) (k .0) (k .1)
+    after-keeping rec rec′ r (frameAnswer rec from to packet) h (frame-sure rec h from to packet o) (m .sending .record-is)
 held-sure (by-timer rec store out told r rec′ out′ told′ p m) =
     let h = held-sure p in
-    after-call rec rec′ r _ h (m .record-is) (calls-keep-whole _ (h .whole) .timer) (timer-small _ _ _ (h .small))
+    after-keeping rec rec′ r (timerAnswer rec) h (timer-sure rec h) (m .record-is)
 held-sure (by-queue rec store q payload r rec′ store′ p m) =
     let h = held-sure p in
-    after-call rec rec′ r _ h (m .record-is)
-    (calls-keep-whole _ (h .whole) .queue q)
-    (queue-small _ _ _ q (h .small))
+    after-keeping rec rec′ r (queueAnswer rec q) h (queue-sure rec h q) (m .record-is)
 held-sure (by-take rec store channel room told r rec′ room′ told′ p m) =
     let h = held-sure p in
-    after-call rec rec′ r _ h (m .record-is)
-    (calls-keep-whole _ (h .whole) .take channel (length room))
-    (take-small _ _ _ channel (length room) (h .small))
+    after-keeping rec rec′ r (takeAnswer rec channel room) h (take-sure rec h channel room) (m .record-is)

@@ -37,7 +37,9 @@ use Rattle.station.specs.declared.station.Answer.{Answer}
 use Rattle.station_theorems.proofs.Laws.Small.{pick-keeps}
 use Rattle.records.specs.Record.{readRecord}
 use Rattle.shell.specs.Calls.{callNumber, badOut, badStore, badBuffers, startAnswer, timerAnswer, frameAnswer, queueAnswer, takeAnswer, ringIn, stationIn, heardThen, packetRule}
-use Rattle.shell_theorems.proofs.Theorems.Held.{Held, held-sure}
+use Rattle.shell_theorems.specs.NeverNotWhole.{Never35}
+use Rattle.shell_theorems.specs.Held.{Held}
+use Rattle.shell_theorems.proofs.Theorems.Held.{held-sure}
 
 -- ---- numbers that are not 35
 
@@ -191,13 +193,6 @@ packet-other s ring from to packet =
     moved-other s _ _ (unless-other s _ _ (checks-other _ _ _ _ _) (then-other s ring _ _ (readPacket ring packet) (read-other ring packet)))
 
 -- ---- the theorem
-
-pub record Never35 (rec : List ℕ) : Type 0 where
-  pub start : (out : ℕ) → callNumber (badOut out) rec (startAnswer rec) ≡ 35 → ⊥
-  pub frame : (store out from to : ℕ) (packet : List ℕ) → callNumber (badBuffers store out) rec (frameAnswer rec from to packet) ≡ 35 → ⊥
-  pub timer : (store out : ℕ) → callNumber (badBuffers store out) rec (timerAnswer rec) ≡ 35 → ⊥
-  pub queue : (store : ℕ) (q : Request) → callNumber (badStore store) rec (queueAnswer rec q) ≡ 35 → ⊥
-  pub take : (store channel : ℕ) (room : List ℕ) → callNumber (badStore store) rec (takeAnswer rec channel room) ≡ 35 → ⊥
 
 number-other : (bad : Bool) (rec : List ℕ) (a : Answer) → readRecord rec .ok ≡ true → Gives a → Other (callNumber bad rec a)
 unfolding callNumber

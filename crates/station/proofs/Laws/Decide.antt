@@ -12,14 +12,14 @@ use Rattle.parts.specs.Live.{without, successor}
 use Rattle.parts.specs.Frames.{numberOf, flight, noFlight, failingOf}
 use Rattle.plain_rules.specs.Round.{reply, startRound}
 use Rattle.plain_rules.specs.Resend.{resend}
-use Rattle.station.specs.Stations.{stateOf, awaitedOf, withTurn, moreTurn, quietTurn, quiet, sendingTurn, alone, head, answered, moved, unless}
+use Rattle.station.specs.Stations.{stationBy, stateOf, awaitedOf, withTurn, quietTurn, quiet, sendingTurn, alone, head, answered, moved, unless}
 use Rattle.station.specs.Round.{sight}
 use Rattle.station.specs.Strike.{Struck}
 use Rattle.station.specs.Start.{sentFirst, started, startRule}
-use Rattle.station.specs.Heard.{checks, acknowledged, acknowledge, failed, isLast, stops, nothingMore, heardMessage, receive, stored, sendOn, handle, silent, respond, heard, frameRule}
+use Rattle.station.specs.Heard.{Stored, checks, acknowledged, acknowledge, failed, isLast, stops, nothingMore, heardMessage, receive, stored, sendOn, handle, silent, respond, heard, frameRule}
 use Rattle.station.specs.Timer.{again, unanswered, leftAlone, goesOn, afterStrike, silence, onTimer, timerRule}
-use Rattle.station.specs.Deeds.{refused, turned, landing, leaving, liveAfter, struckBy, left, touched, storing, fully, carriedOut, verdict, turnAlone}
-use Rattle.station.specs.Decide.{liveWithout, competing, sightAfter, rested, landsBy, blowAt, blowOf, closed, courseOf, toStore, storesToo, quietly, replying, hearing, decided, strikesOut, goingOn, lastTimer, waited, timing, beginning, starting}
+use Rattle.station.specs.Deeds.{refused, turned, landing, leaving, liveAfter, struckBy, left, touched, received, receivedOne, carriedOut, verdict, untouched, turnAlone}
+use Rattle.station.specs.Decide.{liveWithout, competing, sightAfter, rested, landsBy, blowAt, blowOf, closed, courseOf, toStore, storesToo, quietly, replying, hearing, decided, strikesOut, goingOn, lastTimer, beginning, starting}
 use Rattle.parts.specs.declared.moves.State.the-variants.{Idle, Alone, Excluded}
 use Rattle.parts.specs.declared.moves.Event.the-variants.{Heard, Timer, Start}
 use Rattle.parts.specs.declared.list.Message.{Message}
@@ -28,6 +28,7 @@ use Rattle.parts.specs.declared.list.Flight.{Flight}
 use Rattle.parts.specs.declared.list.Which.the-variants.{AnyWaiting, WaitingFor, WaitingForOthers}
 use Rattle.parts.specs.declared.frame.Whom.{Whom}
 use Rattle.parts.specs.declared.frame.Whom.the-variants.{Nobody, Member}
+use Rattle.parts.specs.declared.frame.InformationFrame.{InformationFrame}
 use Rattle.parts.specs.declared.frame.Frame.{Frame}
 use Rattle.parts.specs.declared.frame.Frame.the-variants.{Token, Transmit, Information}
 use Rattle.parts.specs.declared.frame.Dispatch.{Dispatch}
@@ -39,13 +40,13 @@ use Rattle.station.specs.declared.station.Station.{Station}
 use Rattle.station.specs.declared.station.Answer.{Answer}
 use Rattle.station.specs.declared.station.Payload.{Payload}
 use Rattle.station.specs.declared.station.Payload.the-variants.{NoPayload, Of}
-use Rattle.station.specs.declared.rules.heard.Stored.{Stored}
 use Rattle.station.specs.declared.rules.heard.Course.{Course}
 use Rattle.station.specs.declared.rules.deeds.Blow.{Blow}
 use Rattle.station.specs.declared.rules.deeds.Blow.the-variants as blow
 use Rattle.station.specs.declared.rules.deeds.Verdict.{Verdict}
+use Rattle.station.specs.declared.rules.deeds.Received.{Received}
 use Rattle.parts.proofs.Laws.Choose.{pick-true, pick-false}
-use Rattle.station.proofs.Laws.Deeds.{carries-turn, either-way, turned-alone, struckOf, fails, strikes-out, ackedBy, acknowledges, receive-turn, receive-sight}
+use Rattle.station.proofs.Laws.Deeds.{does-nothing, turned-alone, struckOf, fails, strikes-out, ackedBy, acknowledges, receives-so, receive-sight}
 use Rattle.station.proofs.Laws.Heads.{landed-best, others-best, flight-best}
 
 -- ---- which of the two a heard frame asks for
@@ -92,22 +93,31 @@ module _ (s : Station) (a : Bool) (to k : ℕ) where
 
 -- ---- what is stored, and the frame that is sent
 
-module _ (k : Struck) (s : Station) (same : s .receives ≡ k .station .receives) (from : ℕ) (d : Dispatch) (n : ℕ) where
-  replies : (f : Frame)
-      → sendOn k (stored (k .station) from f) n d
-      ≡ record {
-        station = storing (withTurn (k .station) (sendingTurn (Last n) d)) (toStore s from f) .station;
+module _ (k : Struck) (s : Station) (from : ℕ) (same : (i : InformationFrame) → heardMessage s from i ≡ heardMessage (k .station) from i) (d : Dispatch) (n : ℕ) where
+  abbrev answerWith : Received → Answer
+  answerWith r =
+      record {
+        station =
+            stationBy (k .station .n) (k .station .limit) (k .station .own) (k .station .live) (k .station .sends) (r .list)
+            (sendingTurn (Last n) d)
+            (record { lost = r .lost; givenup = k .station .counts .givenup });
         number = 0;
         sent = d;
         struck = k .struck;
         gone = k .gone;
-        payload = storing (withTurn (k .station) (sendingTurn (Last n) d)) (toStore s from f) .payload;
+        payload = r .payload;
       }
-  unfolding stored toStore storing
+
+  replies : (f : Frame)
+      → sendOn k (stored (k .station) from f) n d ≡ answerWith (received (k .station .receives) (k .station .counts .lost) (toStore s from f))
+  unfolding stored toStore received
   replies (Token t) = refl
   replies (Transmit t) = refl
   replies (Information i) =
-      rw (same, receive-turn (k .station) (heardMessage (k .station) from i) (sendingTurn (Last n) d))
+      ap
+      (λ (x : Stored). let a : Answer = record { station = x .station; number = 0; sent = d; struck = k .struck; gone = k .gone; payload = x .payload } in a)
+      (receives-so (k .station) (heardMessage (k .station) from i) (sendingTurn (Last n) d))
+      ∙ ap (λ (m : Message). answerWith (receivedOne (k .station .receives) (k .station .counts .lost) m)) (sym (same i))
 
 stored-sight : (s : Station) (from : ℕ) (f : Frame) → sight (stored s from f .station) ≡ sight s
 unfolding stored
@@ -133,27 +143,27 @@ module _ (s : Station) (f : Frame) (from to : ℕ) where
       ap (λ (t : Station). respond (failed t (failingOf f)) from to f) (acknowledges s from (numberOf f))
       ∙ ap (λ (k : Struck). respond k from to f) (fails (ackedBy s acked) (failingOf f))
 
-  stays-quiet : silent harmed ≡ fully s (quietly (courseOf s f acked))
-  unfolding fully storing
+  stays-quiet : silent harmed ≡ carriedOut s (quietly (courseOf s f acked))
+  unfolding carriedOut received
   stays-quiet = refl
 
   answers : stops (s .own) (closed (rested (s .turn) acked) hit) to (numberOf f) ≡ false
-      → handle harmed (stored (harmed .station) from f) f ≡ fully s (replying s f from (courseOf s f acked))
-  unfolding handle fully replying
+      → handle harmed (stored (harmed .station) from f) f ≡ carriedOut s (replying s f from (courseOf s f acked))
+  unfolding handle carriedOut replying
   answers h =
       ap (λ (v : Sight). sendOn harmed (stored (harmed .station) from f) (numberOf f) (reply v f))
       (stored-sight (harmed .station) from f ∙ looks s acked to (numberOf f) (failingOf f) h)
-      ∙ replies harmed s refl from (reply (sightAfter s (failingOf f)) f) (numberOf f) f
+      ∙ replies harmed s from (λ i. refl) (reply (sightAfter s (failingOf f)) f) (numberOf f) f
 
   pub decides : heard s f from to ≡ carriedOut s (hearing s f from to (courseOf s f acked))
-  unfolding respond nothingMore hearing replying pick
+  unfolding respond nothingMore hearing pick
   decides = harms ∙ go (stops (s .own) (closed (rested (s .turn) acked) hit) to (numberOf f)) refl
     where
       go : (b : Bool) → stops (s .own) (closed (rested (s .turn) acked) hit) to (numberOf f) ≡ b
           → pick b (silent harmed) (handle harmed (stored (harmed .station) from f) f)
           ≡ carriedOut s (pick b (quietly (courseOf s f acked)) (replying s f from (courseOf s f acked)))
-      go true e = stays-quiet ∙ either-way s 0 _ _ _
-      go false e = answers e ∙ either-way s 0 _ _ _
+      go true e = stays-quiet
+      go false e = answers e
 
 -- after the table of moves and the checks
 nothing-done : (s : Station) (number : ℕ) → answered s number ≡ carriedOut s (refused (s .turn) number)
@@ -174,8 +184,34 @@ frame-decides s f from to = go (eqb (moveOf (stateOf s) Heard) runs) (eqb (check
     go false c = nothing-done s (moveOf (stateOf s) Heard)
 
 -- where the turn alone changes
+decided-alone : (s : Station) (f : Frame) (from to : ℕ) → decided s f from to .alone ≡ untouched (decided s f from to .deeds)
+unfolding decided hearing replying pick
+decided-alone s f from to =
+    go (eqb (moveOf (stateOf s) Heard) runs) (eqb (checks s from to) 0) (stops (s .own) (k .turn) to (numberOf f))
+  where
+    k : Course
+    k = courseOf s f (acknowledged s from (numberOf f))
+
+    v : Bool → Bool → Bool → Verdict
+    v a b c =
+        pick a (pick b (pick c (quietly k) (replying s f from k)) (refused (s .turn) (checks s from to))) (refused (s .turn) (moveOf (stateOf s) Heard))
+
+    go : (a b c : Bool) → v a b c .alone ≡ untouched (v a b c .deeds)
+    go true true true = refl
+    go true true false = refl
+    go true false c = refl
+    go false b c = refl
+
 pub turned-hears : (s : Station) (f : Frame) (from to : ℕ) → decided s f from to .alone ≡ true → frameRule s f from to ≡ turnAlone s (decided s f from to)
-turned-hears s f from to e = frame-decides s f from to ∙ sym (carries-turn s (decided s f from to) e)
+turned-hears s f from to e =
+    frame-decides s f from to ∙ sym (does-nothing s (decided s f from to) (sym (decided-alone s f from to) ∙ e))
+
+module _ (s : Station) (f : Frame) (from to : ℕ) (v : Verdict) (e : v ≡ decided s f from to) where
+  pub hears-turned : v .alone ≡ true → turnAlone s v ≡ frameRule s f from to
+  hears-turned a = ap (turnAlone s) e ∙ sym (turned-hears s f from to (ap (λ (x : Verdict). x .alone) (sym e) ∙ a))
+
+  pub hears-carried : carriedOut s v ≡ frameRule s f from to
+  hears-carried = ap (carriedOut s) e ∙ sym (frame-decides s f from to)
 
 -- ---- the timer, and the start
 
@@ -190,15 +226,15 @@ module _ (s : Station) (to : ℕ) where
 
   strikes-fully : (t : Turn) (d : Dispatch)
       → record { station = withTurn (lone .station) t; number = 0; sent = d; struck = lone .struck; gone = lone .gone; payload = NoPayload }
-      ≡ fully s (strikesOut s to t d)
-  unfolding fully storing landing pick
+      ≡ carriedOut s (strikesOut s to t d)
+  unfolding carriedOut received landing pick
   strikes-fully t d = refl
 
   goes-alone : leftAlone lone ≡ carriedOut s (strikesOut s to (quietTurn (s .turn) Alone) Nothing)
-  goes-alone = strikes-fully (quietTurn (s .turn) Alone) Nothing ∙ either-way s 0 _ _ _
+  goes-alone = strikes-fully (quietTurn (s .turn) Alone) Nothing
 
   goes-further : (d : Dispatch) → goesOn lone d ≡ carriedOut s (goingOn s to d)
-  goes-further d = strikes-fully (sendingTurn (s .turn .handled) d) d ∙ either-way s 0 _ _ _
+  goes-further d = strikes-fully (sendingTurn (s .turn .handled) d) d
 
   pub times-last : (f : Frame) → afterStrike (unanswered s to) to f ≡ carriedOut s (lastTimer s to f)
   unfolding afterStrike unanswered lastTimer liveAfter pick
@@ -209,18 +245,6 @@ module _ (s : Station) (to : ℕ) where
           ≡ carriedOut s (pick b (strikesOut s to (quietTurn (s .turn) Alone) Nothing) (goingOn s to (resend (sightAfter s (Member to)) to f)))
       go true = goes-alone
       go false = ap (λ (v : Sight). goesOn lone (resend v to f)) looks-on ∙ goes-further (resend (sightAfter s (Member to)) to f)
-
-turned-done : (s : Station) (t : Turn) (d : Dispatch) → turnAlone s (turned t d) ≡ carriedOut s (turned t d)
-turned-done s t d = turned-alone s 0 t d
-
-pub timer-decides : (s : Station) (d : Dispatch) → onTimer s d ≡ carriedOut s (timing s d)
-unfolding onTimer timing silence waited pick
-timer-decides s Nothing = nothing-done s 0
-timer-decides s (Sent f to) = go (ltb (s .turn .retries) (s .limit))
-  where
-    go : (b : Bool) → pick b (again s) (afterStrike (unanswered s to) to f) ≡ carriedOut s (pick b (turned (moreTurn (s .turn)) (awaitedOf s)) (lastTimer s to f))
-    go true = turned-done s (moreTurn (s .turn)) (awaitedOf s)
-    go false = times-last s to f
 
 looks-first : (s : Station) → sight s ≡ sightAfter s Nobody
 unfolding liveWithout competing head

@@ -13,8 +13,8 @@ use Rattle.plain_rules.specs.Heard.{newly}
 use Rattle.station.specs.Stations.{stationBy, withTurn, withSends, withLive, withReceives, withLost, awaitedOf, quiet, quietTurn, addUpTo, counted, alone, head}
 use Rattle.station.specs.Round.{sight}
 use Rattle.station.specs.Strike.{Loss, Struck, strike, nothingGone, giveUpTo, leave, giveUpAt, giveUpFlight, told, stopped}
-use Rattle.station.specs.Heard.{acknowledged, landed, acknowledge, strikeOther, strikeHeard, failed, receive}
-use Rattle.station.specs.Deeds.{noDeeds, landing, alsoAt, alsoFlight, allStay, leaving, liveAfter, struckBy, left, touched, storing, fully, carriedOut, verdict, untouched, spares, storesNone, turnAlone}
+use Rattle.station.specs.Heard.{Stored, acknowledged, landed, acknowledge, strikeOther, strikeHeard, failed, receive}
+use Rattle.station.specs.Deeds.{noDeeds, landing, alsoAt, alsoFlight, allStay, leaving, liveAfter, struckBy, left, touched, receivedOne, received, carriedOut, verdict, untouched, spares, storesNone, turnAlone}
 use Rattle.station.specs.Decide.{liveWithout, competing, sightAfter, rested, landsBy, blowAt, blowOf, closed}
 use Rattle.parts.specs.declared.moves.State.{State}
 use Rattle.parts.specs.declared.moves.State.the-variants.{Idle, Alone, Excluded}
@@ -32,11 +32,11 @@ use Rattle.station.specs.declared.station.Turn.{Turn}
 use Rattle.station.specs.declared.station.Station.{Station}
 use Rattle.station.specs.declared.station.Payload.{Payload}
 use Rattle.station.specs.declared.station.Payload.the-variants.{NoPayload, Of}
-use Rattle.station.specs.declared.rules.heard.Stored.{Stored}
 use Rattle.station.specs.declared.rules.deeds.Blow.{Blow}
 use Rattle.station.specs.declared.rules.deeds.Blow.the-variants as blow
 use Rattle.station.specs.declared.rules.deeds.Deeds.{Deeds}
 use Rattle.station.specs.declared.rules.deeds.Verdict.{Verdict}
+use Rattle.station.specs.declared.rules.deeds.Received.{Received}
 use Rattle.parts.proofs.Laws.Choose.{pick-true, pick-false}
 use Rattle.parts.proofs.Laws.Best.{best-alike, best-of-kept, best-none-gone}
 use Rattle.station.proofs.Laws.Stations.{add-inside}
@@ -162,26 +162,42 @@ acknowledges s from k = go (acknowledged s from k)
 -- ---- what is stored changes neither the turn nor what the station looks at
 
 module _ (s : Station) (m : Message) where
-  pub receive-turn : (t : Turn) → receive (withTurn s t) m ≡ record { station = withTurn (receive s m .station) t; payload = receive s m .payload }
-  unfolding receive pick
-  receive-turn t = go (leb 16 (s .receives .len))
+  -- the page's step, and the one over the list and the count
+  pub receives-so : (t : Turn)
+      → _≡_ {A = Stored}
+      (record { station = withTurn (receive s m .station) t; payload = receive s m .payload })
+      (record {
+        station =
+            stationBy (s .n) (s .limit) (s .own) (s .live) (s .sends)
+            (receivedOne (s .receives) (s .counts .lost) m .list)
+            t
+            (record { lost = receivedOne (s .receives) (s .counts .lost) m .lost; givenup = s .counts .givenup });
+        payload = receivedOne (s .receives) (s .counts .lost) m .payload;
+      })
+  unfolding receive receivedOne pick
+  receives-so t = go (leb 16 (s .receives .len))
     where
+      by-page : Bool → Stored
+      by-page b =
+          pick {A = Stored} b
+          (record { station = withLost s (addUpTo (s .counts .lost) 1); payload = NoPayload })
+          (record { station = withReceives s (pushed (s .receives) m); payload = Of m })
+
+      by-list : Bool → Received
+      by-list b =
+          pick b
+          (record { list = s .receives; lost = addUpTo (s .counts .lost) 1; payload = NoPayload })
+          (record { list = pushed (s .receives) m; lost = s .counts .lost; payload = Of m })
+
       go : (b : Bool)
-          → pick {A = Stored} b
-          (record { station = withLost (withTurn s t) (addUpTo (s .counts .lost) 1); payload = NoPayload })
-          (record { station = withReceives (withTurn s t) (pushed (s .receives) m); payload = Of m })
-          ≡ record {
-            station = withTurn
-                (pick {A = Stored} b
-                (record { station = withLost s (addUpTo (s .counts .lost) 1); payload = NoPayload })
-                (record { station = withReceives s (pushed (s .receives) m); payload = Of m })
-                .station)
-                t;
-            payload = pick {A = Stored} b
-                (record { station = withLost s (addUpTo (s .counts .lost) 1); payload = NoPayload })
-                (record { station = withReceives s (pushed (s .receives) m); payload = Of m })
-                .payload;
-          }
+          → _≡_ {A = Stored}
+          (record { station = withTurn (by-page b .station) t; payload = by-page b .payload })
+          (record {
+            station =
+                stationBy (s .n) (s .limit) (s .own) (s .live) (s .sends) (by-list b .list) t
+                (record { lost = by-list b .lost; givenup = s .counts .givenup });
+            payload = by-list b .payload;
+          })
       go true = refl
       go false = refl
 
@@ -201,27 +217,31 @@ module _ (s : Station) (m : Message) where
 
 -- ---- where the turn alone changes
 
-does-nothing : (s : Station) (v : Verdict) → untouched (v .deeds) ≡ true → turnAlone s v ≡ fully s v
-unfolding fully untouched landing leaving liveAfter struckBy storing pick
+nothing-touched : untouched noDeeds ≡ true
+unfolding untouched pick
+nothing-touched = refl
+
+pub does-nothing : (s : Station) (v : Verdict) → untouched (v .deeds) ≡ true → turnAlone s v ≡ carriedOut s v
+unfolding carriedOut untouched landing leaving liveAfter struckBy received pick
 does-nothing s v = go (v .deeds .lands .on) (v .deeds .blow) (v .deeds .stores)
   where
     parts : Bool → Blow → Parts
     parts a b = leaving b (v .deeds .flight) (pick a (splitBy (HasPlace (v .deeds .lands .place)) (s .sends) .kept) (s .sends))
 
-    kept : Bool → Blow → Station
-    kept a b =
-        stationBy (s .n) (s .limit) (s .own) (liveAfter (s .live) b) (parts a b .kept) (s .receives) (v .turn)
-        (record { lost = s .counts .lost; givenup = addUpTo (s .counts .givenup) (parts a b .gone .len) })
+    kept : Bool → Blow → Received → Station
+    kept a b r =
+        stationBy (s .n) (s .limit) (s .own) (liveAfter (s .live) b) (parts a b .kept) (r .list) (v .turn)
+        (record { lost = r .lost; givenup = addUpTo (s .counts .givenup) (parts a b .gone .len) })
 
     go : (a : Bool) (b : Blow) (p : Payload) → pick a false (pick (spares b) (storesNone p) false) ≡ true
         → turnAlone s v
         ≡ record {
-          station = storing (kept a b) p .station;
+          station = kept a b (received (s .receives) (s .counts .lost) p);
           number = v .number;
           sent = v .sent;
           struck = struckBy (s .live) b;
           gone = parts a b .gone;
-          payload = storing (kept a b) p .payload;
+          payload = received (s .receives) (s .counts .lost) p .payload;
         }
     go true b p e = absurd (false≢true e)
     go false blow.Spares NoPayload e = rw (add-none (s .counts .givenup))
@@ -230,19 +250,5 @@ does-nothing s v = go (v .deeds .lands .on) (v .deeds .blow) (v .deeds .stores)
     go false (blow.Last q) p e = absurd (false≢true e)
     go false (blow.Itself q) p e = absurd (false≢true e)
 
--- so what is decided may be done either way
-pub either-way : (s : Station) (number : ℕ) (t : Turn) (d : Dispatch) (e : Deeds) → fully s (verdict number t d e) ≡ carriedOut s (verdict number t d e)
-unfolding carriedOut pick
-either-way s number t d e = go (untouched e) refl
-  where
-    go : (b : Bool) → untouched e ≡ b → fully s (verdict number t d e) ≡ pick b (turnAlone s (verdict number t d e)) (fully s (verdict number t d e))
-    go true u = sym (does-nothing s (verdict number t d e) u)
-    go false u = refl
-
 pub turned-alone : (s : Station) (number : ℕ) (t : Turn) (d : Dispatch) → turnAlone s (verdict number t d noDeeds) ≡ carriedOut s (verdict number t d noDeeds)
-unfolding carriedOut untouched pick
-turned-alone s number t d = refl
-
-pub carries-turn : (s : Station) (v : Verdict) → v .alone ≡ true → turnAlone s v ≡ carriedOut s v
-unfolding carriedOut
-carries-turn s v e = sym (pick-true _ _ e)
+turned-alone s number t d = does-nothing s (verdict number t d noDeeds) nothing-touched

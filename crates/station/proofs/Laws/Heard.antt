@@ -11,7 +11,7 @@ use Rattle.station.specs.Round.{sight}
 use Rattle.plain_rules.specs.Round.{reply}
 use Rattle.station.specs.Strike.{Struck}
 use Rattle.plain_rules.specs.Heard.{newly}
-use Rattle.station.specs.Heard.{landed, acknowledge, strikeOther, strikeHeard, failed, nothingMore, receive, stored, sendOn, handle, silent, respond, heard, checks, frameRule}
+use Rattle.station.specs.Heard.{Stored, landed, acknowledge, strikeOther, strikeHeard, failed, nothingMore, receive, stored, sendOn, handle, silent, respond, heard, checks, frameRule}
 use Rattle.parts.specs.declared.moves.State.the-variants.{Alone, Excluded}
 use Rattle.parts.specs.declared.moves.Event.the-variants.{Heard}
 use Rattle.parts.specs.declared.list.Message.{Message}
@@ -23,7 +23,6 @@ use Rattle.parts.specs.declared.frame.Dispatch.{Dispatch}
 use Rattle.station.specs.declared.station.Station.{Station}
 use Rattle.station.specs.declared.station.Payload.the-variants.{NoPayload, Of}
 use Rattle.plain_rules.specs.declared.round.Sight.{Sight}
-use Rattle.station.specs.declared.rules.heard.Stored.{Stored}
 use Rattle.parts.proofs.Laws.Choose.{pick-true, pick-false}
 use Rattle.station.proofs.Laws.Moved.{moved-runs, unless-passes}
 

@@ -11,20 +11,22 @@ ghost use Rattle.station.specs.Deeds.{
   liveAfter,
   struckBy,
   left,
+  receivedOne,
+  received,
   touched,
-  storing,
   untouched,
   turnAlone,
   carriedOut,
 };
-use crate::rules::heard::Stored;
 use crate::station::Answer;
+use crate::station::Counts;
 use crate::station::Payload;
 use crate::station::Station;
 use crate::station::Turn;
 use parts::frame::Dispatch;
 use parts::frame::Whom;
 use parts::list::Flight;
+use parts::list::Message;
 use parts::list::Messages;
 use parts::list::Parts;
 use parts::list::Which;
@@ -57,6 +59,13 @@ pub struct Verdict {
     pub sent: Dispatch,
     pub number: u32,
     pub deeds: Deeds,
+}
+
+// The receive list and the count of those lost after storing, and the message that was stored.
+pub struct Received {
+    pub list: Messages,
+    pub lost: u32,
+    pub payload: Payload,
 }
 
 // The turn and the frame to send, and whether nothing else was decided.
@@ -237,34 +246,64 @@ pub fn struck_by(live: Live, blow: Blow) -> Whom
 
 // ---- all of it
 
-pub fn touch(s: Station, v: Verdict, d: Parts) -> Station
-    ensures { λ r. ⌜ r ≡ touched s v d ⌝ }
+// Stored, or counted lost.
+pub fn receive_one(l: Messages, lost: u32, m: Message) -> Received
+    ensures { λ r. ⌜ r ≡ receivedOne l lost m ⌝ }
+{
+    if 16 <= l.len {
+        let more = crate::station::add_up_to(lost, 1);
+        return Received {
+            list: l,
+            lost: more,
+            payload: Payload::NoPayload,
+        };
+    }
+    let list = parts::list::push(l, m);
+    Received {
+        list,
+        lost,
+        payload: Payload::Of(m),
+    }
+}
+
+pub fn receive(l: Messages, lost: u32, stores: Payload) -> Received
+    ensures { λ r. ⌜ r ≡ received l lost stores ⌝ }
+{
+    match stores {
+        Payload::NoPayload => Received {
+            list: l,
+            lost,
+            payload: Payload::NoPayload,
+        },
+        Payload::Of(m) => receive_one(l, lost, m),
+    }
+}
+
+pub fn touch(s: Station, v: Verdict, d: Parts, r: Received) -> Station
+    ensures { λ x. ⌜ x ≡ touched s v d r ⌝ }
 {
     let e = v.deeds;
     let turn = v.turn;
-    let kept = d.kept;
+    let sends = d.kept;
     let gone = d.gone;
+    let receives = r.list;
     let blow = e.blow;
     let live = live_after(s.live, blow);
-    let mut counts = s.counts;
-    counts.givenup = crate::station::add_up_to(counts.givenup, gone.len);
-    let mut o = s;
-    o.turn = turn;
-    o.sends = kept;
-    o.live = live;
-    o.counts = counts;
-    o
-}
-
-pub fn store(s: Station, stores: Payload) -> Stored
-    ensures { λ r. ⌜ r ≡ storing s stores ⌝ }
-{
-    match stores {
-        Payload::NoPayload => Stored {
-            station: s,
-            payload: Payload::NoPayload,
-        },
-        Payload::Of(m) => crate::rules::heard::receive_it(s, m),
+    let c = s.counts;
+    let givenup = crate::station::add_up_to(c.givenup, gone.len);
+    let counts = Counts {
+        lost: r.lost,
+        givenup,
+    };
+    Station {
+        n: s.n,
+        limit: s.limit,
+        own: s.own,
+        live,
+        sends,
+        receives,
+        turn,
+        counts,
     }
 }
 
@@ -287,32 +326,27 @@ pub fn turn_alone(s: Station, v: Verdict) -> Answer
     }
 }
 
-impl Station {
-    // What was decided is done.
-    pub fn carry_out(self, v: Verdict) -> Answer
-        ensures { λ r. ⌜ r ≡ carriedOut self v ⌝ }
-    {
-        if v.alone {
-            return turn_alone(self, v);
-        }
-        let d = v.deeds;
-        let p = leave(self.sends, d);
-        let t = touch(self, v, p);
-        let stores = d.stores;
-        let k = store(t, stores);
-        let station = k.station;
-        let sent = v.sent;
-        let blow = d.blow;
-        let struck = struck_by(self.live, blow);
-        let gone = p.gone;
-        let payload = k.payload;
-        Answer {
-            station,
-            number: v.number,
-            sent,
-            struck,
-            gone,
-            payload,
-        }
+// What was decided is done, the lists and the live set too.
+pub fn carry_out(s: Station, v: Verdict) -> Answer
+    ensures { λ r. ⌜ r ≡ carriedOut s v ⌝ }
+{
+    let d = v.deeds;
+    let p = leave(s.sends, d);
+    let c = s.counts;
+    let stores = d.stores;
+    let k = receive(s.receives, c.lost, stores);
+    let station = touch(s, v, p, k);
+    let blow = d.blow;
+    let struck = struck_by(s.live, blow);
+    let sent = v.sent;
+    let gone = p.gone;
+    let payload = k.payload;
+    Answer {
+        station,
+        number: v.number,
+        sent,
+        struck,
+        gone,
+        payload,
     }
 }

@@ -1,6 +1,6 @@
 // A heard frame, in five steps: what it asks for is decided, and then done.
 ghost use mathlib.Core.Path.{_≡_};
-ghost use Rattle.station.specs.Heard.{checks, acknowledged, isLast, stops, heardMessage, receive, frameRule};
+ghost use Rattle.station.specs.Heard.{checks, acknowledged, isLast, stops, heardMessage, frameRule};
 ghost use Rattle.station.specs.Decide.{rested, landsBy, blowAt, blowOf, closed, courseOf, toStore, storesToo, quietly, replying, hearing, decided, turnedBy};
 use crate::rules::deeds::Blow;
 use crate::rules::deeds::Deeds;
@@ -20,12 +20,6 @@ use parts::list::Message;
 use parts::live::Live;
 use parts::moves::Event;
 use parts::moves::State;
-
-// A station after storing a heard frame, and the message that was stored.
-pub struct Stored {
-    pub station: Station,
-    pub payload: Payload,
-}
 
 // The turn after an acknowledgement and a failing station, and what they do beside it.
 pub struct Course {
@@ -159,29 +153,7 @@ pub fn nothing_more(own: u8, t: Turn, to: u8, k: u16) -> bool
     false
 }
 
-// 5. Stored, or counted lost.
-pub fn receive_it(s: Station, m: Message) -> Stored
-    ensures { λ r. ⌜ r ≡ receive s m ⌝ }
-{
-    let l = s.receives;
-    if 16 <= l.len {
-        let mut counts = s.counts;
-        counts.lost = crate::station::add_up_to(counts.lost, 1);
-        let mut station = s;
-        station.counts = counts;
-        return Stored {
-            station,
-            payload: Payload::NoPayload,
-        };
-    }
-    let more = parts::list::push(l, m);
-    let station = crate::station::with_receives(s, more);
-    Stored {
-        station,
-        payload: Payload::Of(m),
-    }
-}
-
+// 5. What is stored, and the frame that is sent.
 pub fn heard_message(s: Station, from: u8, i: InformationFrame) -> Message
     ensures { λ r. ⌜ r ≡ heardMessage s from i ⌝ }
 {
@@ -295,6 +267,9 @@ impl Station {
         ensures { λ r. ⌜ r ≡ frameRule self f from to ⌝ }
     {
         let v = self.decide(f, from, to);
-        self.carry_out(v)
+        if v.alone {
+            return crate::rules::deeds::turn_alone(self, v);
+        }
+        crate::rules::deeds::carry_out(self, v)
     }
 }

@@ -1,47 +1,54 @@
-// What a station looks at when it composes a frame.
+// What a station looks at when it composes a frame, while the lists are still as they were.
 ghost use mathlib.Core.Path.{_≡_};
-ghost use Rattle.station.specs.Decide.{liveWithout, competing, sightAfter};
+ghost use Rattle.station.specs.Decide.{sightAfter};
+ghost use Rattle.parts.specs.declared.frame.Whom.the-variants.{Nobody, Member};
 use crate::station::Station;
 use parts::frame::Whom;
-use parts::list::Flight;
 use parts::list::Which;
-use parts::live::Live;
 use plain_rules::round::Sight;
 
-pub fn live_without(live: Live, w: Whom) -> Live
-    ensures { λ r. ⌜ r ≡ liveWithout live w ⌝ }
+pub fn look(s: Station) -> Sight
+    ensures { λ r. ⌜ r ≡ sightAfter s Nobody ⌝ }
 {
-    match w {
-        Whom::Nobody => live,
-        Whom::Member(p) => parts::live::struck_from(live, p as usize),
-    }
-}
-
-// Neither the message in flight nor those to a struck station compete for the head.
-pub fn competing_in(f: Flight, w: Whom) -> Which
-    ensures { λ r. ⌜ r ≡ competing f w ⌝ }
-{
-    match w {
-        Whom::Nobody => Which::AnyWaiting(f),
-        Whom::Member(p) => Which::WaitingForOthers(f, p),
-    }
-}
-
-// What it looks at once `w` is struck, while the lists are still as they were.
-pub fn look_after(s: Station, w: Whom) -> Sight
-    ensures { λ r. ⌜ r ≡ sightAfter s w ⌝ }
-{
-    let live = live_without(s.live, w);
+    let live = s.live;
     let next = parts::live::next_live(live, s.n, s.own);
     let turn = s.turn;
     let awaited = turn.awaited;
     let flight = parts::frame::flight_of(awaited);
-    let which = competing_in(flight, w);
+    let which = Which::AnyWaiting(flight);
     let head = parts::list::choose(s.sends, which);
     Sight {
         own: s.own,
         live,
         next,
         head,
+    }
+}
+
+// Once `p` is struck: neither the message in flight nor those to it compete for the head.
+pub fn look_without(s: Station, p: u8) -> Sight
+    ensures { λ r. ⌜ r ≡ sightAfter s (Member p) ⌝ }
+{
+    let live = parts::live::struck_from(s.live, p as usize);
+    let next = parts::live::next_live(live, s.n, s.own);
+    let turn = s.turn;
+    let awaited = turn.awaited;
+    let flight = parts::frame::flight_of(awaited);
+    let which = Which::WaitingForOthers(flight, p);
+    let head = parts::list::choose(s.sends, which);
+    Sight {
+        own: s.own,
+        live,
+        next,
+        head,
+    }
+}
+
+pub fn look_after(s: Station, w: Whom) -> Sight
+    ensures { λ r. ⌜ r ≡ sightAfter s w ⌝ }
+{
+    match w {
+        Whom::Nobody => look(s),
+        Whom::Member(p) => look_without(s, p),
     }
 }

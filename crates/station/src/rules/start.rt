@@ -15,7 +15,7 @@ pub fn starting_of(s: Station) -> Verdict
 {
     let turn = s.turn;
     if s.own == 0 {
-        let v = crate::rules::round::look_after(s, Whom::Nobody);
+        let v = crate::rules::round::look(s);
         let d = plain_rules::round::round_from(v, 0, Whom::Nobody);
         let handled = turn.handled;
         let next = crate::station::waiting(handled, d);

@@ -1,7 +1,7 @@
 // The timer of a Waiting station.
 ghost use mathlib.Core.Path.{_≡_};
-ghost use Rattle.station.specs.Decide.{strikesOut, goingOn, lastTimer, waited, timing};
-ghost use Rattle.station.specs.Timer.{timerRule};
+ghost use Rattle.station.specs.Decide.{strikesOut, goingOn, lastTimer};
+ghost use Rattle.station.specs.Timer.{silence, timerRule};
 use crate::rules::deeds::Blow;
 use crate::rules::deeds::Deeds;
 use crate::rules::deeds::Verdict;
@@ -11,7 +11,6 @@ use crate::station::Station;
 use crate::station::Turn;
 use parts::frame::Dispatch;
 use parts::frame::Frame;
-use parts::frame::Whom;
 use parts::list::Flight;
 use parts::moves::Event;
 use parts::moves::State;
@@ -47,7 +46,7 @@ pub fn go_on(s: Station, to: u8, d: Dispatch) -> Verdict
 pub fn last_timer(s: Station, to: u8, f: Frame) -> Verdict
     ensures { λ r. ⌜ r ≡ lastTimer s to f ⌝ }
 {
-    let v = crate::rules::round::look_after(s, Whom::Member(to));
+    let v = crate::rules::round::look_without(s, to);
     if v.next == s.own {
         let turn = crate::station::resting(s.turn, State::Alone);
         return strike_out(s, to, turn, Dispatch::Nothing);
@@ -56,28 +55,22 @@ pub fn last_timer(s: Station, to: u8, f: Frame) -> Verdict
     go_on(s, to, d)
 }
 
-pub fn wait_on(s: Station, to: u8, f: Frame) -> Verdict
-    ensures { λ r. ⌜ r ≡ waited s to f ⌝ }
-{
-    let t = s.turn;
-    if t.retries < s.limit {
-        let turn = crate::station::more_turn(t);
-        let sent = t.awaited;
-        return crate::rules::deeds::turn_to(turn, sent);
-    }
-    last_timer(s, to, f)
-}
-
-pub fn timing_of(s: Station, awaited: Dispatch) -> Verdict
-    ensures { λ r. ⌜ r ≡ timing s awaited ⌝ }
-{
-    match awaited {
-        Dispatch::Nothing => crate::rules::deeds::refuse(s.turn, 0),
-        Dispatch::Sent { frame, to } => wait_on(s, to, frame),
-    }
-}
-
 impl Station {
+    // The timer of a frame to `to` runs.
+    pub fn wait_on(self, to: u8, f: Frame) -> Answer
+        ensures { λ r. ⌜ r ≡ silence self to f ⌝ }
+    {
+        let t = self.turn;
+        if t.retries < self.limit {
+            let turn = crate::station::more_turn(t);
+            let sent = t.awaited;
+            let v = crate::rules::deeds::turn_to(turn, sent);
+            return crate::rules::deeds::turn_alone(self, v);
+        }
+        let v = last_timer(self, to, f);
+        crate::rules::deeds::carry_out(self, v)
+    }
+
     // The timer runs.
     pub fn timer(self) -> Answer
         ensures { λ r. ⌜ r ≡ timerRule self ⌝ }
@@ -89,7 +82,9 @@ impl Station {
             return crate::station::number_alone(self, m);
         }
         let awaited = turn.awaited;
-        let v = timing_of(self, awaited);
-        self.carry_out(v)
+        match awaited {
+            Dispatch::Nothing => crate::station::number_alone(self, 0),
+            Dispatch::Sent { frame, to } => self.wait_on(to, frame),
+        }
     }
 }

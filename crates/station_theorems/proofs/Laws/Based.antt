@@ -2,7 +2,7 @@
 use mathlib.Core.Path.{_≡_, refl, sym, ap, _∙_}
 use mathlib.Core.Bool.{Bool, true, false, not, false≢true, _||_}
 use mathlib.Core.List.{List}
-use Prim.Native.Nat.{ℕ, _<_, _≤_}
+use Prim.Native.Nat.{ℕ, _<_}
 use native.Mathlib.Omega.{arith}
 use lib.Dec.{leb}
 use lib.ListN.{length}
@@ -28,20 +28,15 @@ use Rattle.parts.specs.declared.frame.Dispatch.the-variants.{Nothing, Sent}
 use Rattle.station.specs.declared.station.Handled.{Handled}
 use Rattle.station.specs.declared.station.Station.{Station}
 use Rattle.parts.proofs.Laws.Choose.{pick-false}
+use Rattle.station_theorems.specs.Whole.{Ring}
+use Rattle.station_theorems.specs.Shaped.{Shaped}
 use Rattle.station_theorems.proofs.Laws.States.{heard-cases}
 use Rattle.parts.proofs.Laws.Tests.{held, hold, each-weaker}
 use Rattle.station_theorems.proofs.Laws.Seats.{Seats, seated, seating}
 use Rattle.station_theorems.proofs.Theorems.Successor.{successor-is}
-use Rattle.station_theorems.proofs.Laws.Sound.{Shaped, Sound}
+use Rattle.station_theorems.proofs.Laws.Sound.{Sound}
 
 -- ---- the ring
-
-pub record Ring (n limit own : ℕ) : Type 0 where
-  pub some-members : 2 ≤ n
-  pub most-members : n ≤ 64
-  pub some-retry : 1 ≤ limit
-  pub most-retries : limit ≤ 15
-  pub member : own < n
 
 pub ringed : (n limit own : ℕ) → ringGood n limit own ≡ true → Ring n limit own
 unfolding ringGood

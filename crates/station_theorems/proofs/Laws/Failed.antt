@@ -22,9 +22,10 @@ use Rattle.parts.specs.declared.frame.Whom.{Whom}
 use Rattle.parts.specs.declared.frame.Whom.the-variants.{Nobody, Member}
 use Rattle.station.specs.declared.station.Station.{Station}
 use Rattle.parts.proofs.Laws.Choose.{pick-true}
+use Rattle.station_theorems.specs.Whole.{Ring}
 use Rattle.station_theorems.proofs.Laws.Kept.{list-only}
 use Rattle.station_theorems.proofs.Laws.Seats.{Seats, seated, seating, struck-off, struck-length, struck-fewer}
-use Rattle.station_theorems.proofs.Laws.Based.{Ring, ringed, Based, sound-based, in-flight, quiet-alone}
+use Rattle.station_theorems.proofs.Laws.Based.{ringed, Based, sound-based, in-flight, quiet-alone}
 use Rattle.station_theorems.proofs.Laws.Struck.{kept-length, awaited-kept, flies-stays, staying, elsewhere, struck-based, left-based, still-based, counted-sound, flight-cases, stays-sound}
 use Rattle.station_theorems.proofs.Laws.Sound.{Sound}
 use Rattle.station_theorems.proofs.Laws.Acknowledged.{Onward}

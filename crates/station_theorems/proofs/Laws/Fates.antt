@@ -9,9 +9,9 @@ use Rattle.parts.specs.declared.list.Message.{Message}
 use Rattle.parts.specs.declared.frame.Whom.{Whom}
 use Rattle.station.specs.declared.station.Station.{Station}
 use Rattle.station.specs.declared.station.Answer.{Answer}
+use Rattle.station_theorems.specs.Leaves.{waitsTo, flying, AnswerLeaves}
 use Rattle.station_theorems.proofs.Laws.Only.{member-taken, taken-member}
 use Rattle.station_theorems.proofs.Laws.Leaving.{place-left-free}
-use Rattle.station_theorems.proofs.Laws.Leaves.{waitsTo, flying, AnswerLeaves}
 
 -- two tests that hold
 and-parts : (b c : Bool) → (b && c) ≡ true → (b ≡ true) × (c ≡ true)

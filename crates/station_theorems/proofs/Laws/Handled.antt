@@ -14,7 +14,7 @@ use Rattle.parts.specs.Messages.{all, pushed, hasPlace, lowestFree}
 use Rattle.parts.specs.Frames.{noFlight, fit}
 use Rattle.station.specs.Strike.{Struck}
 use Rattle.station.specs.Stations.{stateOf, awaitedOf, alone, addUpTo, withLost, withReceives}
-use Rattle.station.specs.Heard.{isLast, nothingMore, heardMessage, receive, stored, handle}
+use Rattle.station.specs.Heard.{Stored, isLast, nothingMore, heardMessage, receive, stored, handle}
 use Rattle.wholeness.specs.Whole.{ownSeat, companyGood, messageGood}
 use Rattle.parts.specs.declared.moves.State.{State}
 use Rattle.parts.specs.declared.moves.State.the-variants.{Idle}
@@ -22,7 +22,6 @@ use Rattle.parts.specs.declared.list.Message.{Message}
 use Rattle.parts.specs.declared.frame.InformationFrame.{InformationFrame}
 use Rattle.parts.specs.declared.frame.Frame.{Frame}
 use Rattle.parts.specs.declared.frame.Frame.the-variants.{Token, Transmit, Information}
-use Rattle.station.specs.declared.rules.heard.Stored.{Stored}
 use Rattle.station.specs.declared.station.Station.{Station}
 use Rattle.station.specs.declared.station.Payload.the-variants.{NoPayload, Of}
 use Rattle.station_theorems.proofs.Laws.Places.{lowest-free-free, lowest-free-room}

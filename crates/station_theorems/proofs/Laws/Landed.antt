@@ -9,7 +9,7 @@ use Rattle.parts.specs.Messages.{all, flies, fits, only}
 use Rattle.parts.specs.Frames.{numberOf, flight, failingOf}
 use Rattle.station.specs.Strike.{Struck}
 use Rattle.station.specs.Stations.{awaitedOf, withTurn, withSends, quiet}
-use Rattle.station.specs.Heard.{acknowledged, landed, acknowledge, failed, receive, stored, handle, respond, heard}
+use Rattle.station.specs.Heard.{Stored, acknowledged, landed, acknowledge, failed, receive, stored, handle, respond, heard}
 use Rattle.station.specs.Timer.{unanswered, afterStrike}
 use Rattle.wholeness.specs.Whole.{apart}
 use Rattle.parts.specs.declared.moves.State.the-variants.{Idle}
@@ -23,14 +23,14 @@ use Rattle.parts.specs.declared.frame.Frame.the-variants.{Token, Transmit, Info
 use Rattle.parts.specs.declared.frame.Dispatch.{Dispatch}
 use Rattle.parts.specs.declared.frame.Dispatch.the-variants.{Nothing}
 use Rattle.station.specs.declared.station.Station.{Station}
-use Rattle.station.specs.declared.rules.heard.Stored.{Stored}
 use Rattle.parts.proofs.Laws.Choose.{pick-true, pick-false}
 use Rattle.parts.proofs.Laws.Messages.{only-length}
+use Rattle.station_theorems.specs.Leaves.{waitsTo, flying, Leaves, AnswerLeaves, anotherThan, stops}
 use Rattle.station_theorems.proofs.Laws.Kept.{apart-only}
 use Rattle.station_theorems.proofs.Laws.Telling.{pick-either}
 use Rattle.station_theorems.proofs.Laws.Only.{only-same, only-all, only-nothing, only-twice}
 use Rattle.station_theorems.proofs.Laws.Leaving.{split-kept, flies-at, flies-not}
-use Rattle.station_theorems.proofs.Laws.Leaves.{waitsTo, flying, Leaves, AnswerLeaves, leaves-then, anotherThan, stops, both-leave, failed-leaves}
+use Rattle.station_theorems.proofs.Laws.Leaves.{leaves-then, both-leave, failed-leaves}
 
 -- ---- an acknowledgement
 

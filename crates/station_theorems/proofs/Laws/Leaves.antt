@@ -7,43 +7,21 @@ use Prim.Native.Nat.{ℕ, _≤_}
 use native.Mathlib.Omega.{arith}
 use lib.Dec.{eqb}
 use lib.ListN.{length}
-use Rattle.parts.specs.Choose.{pick}
-use Rattle.parts.specs.Messages.{all, none, flies, fits, only}
-use Rattle.parts.specs.Frames.{flight}
-use Rattle.station.specs.Stations.{awaitedOf, alone}
+use Rattle.parts.specs.Messages.{all, none, fits, only}
+use Rattle.station.specs.Stations.{alone}
 use Rattle.station.specs.Strike.{Struck, strike, nothingGone, giveUpTo, giveUpFlight}
 use Rattle.plain_rules.specs.Heard.{newly}
 use Rattle.station.specs.Heard.{landed, strikeOther, strikeHeard, failed}
 use Rattle.wholeness.specs.Whole.{apart}
 use Rattle.parts.specs.declared.list.Message.{Message}
 use Rattle.parts.specs.declared.list.Messages.{Messages}
-use Rattle.parts.specs.declared.list.Which.the-variants.{WaitingFor}
 use Rattle.parts.specs.declared.frame.Whom.{Whom}
 use Rattle.parts.specs.declared.frame.Whom.the-variants.{Nobody, Member}
 use Rattle.station.specs.declared.station.Station.{Station}
-use Rattle.station.specs.declared.station.Answer.{Answer}
 use Rattle.parts.proofs.Laws.Choose.{pick-true, pick-false}
+use Rattle.station_theorems.specs.Leaves.{waitsTo, flying, Leaves, anotherThan, stops}
 use Rattle.station_theorems.proofs.Laws.Only.{only-same, only-all, only-nothing, only-twice}
 use Rattle.station_theorems.proofs.Laws.Leaving.{flight-leaves, to-kept, to-told, to-ready}
-
--- a message waits, and goes to the station named
-abbrev pub waitsTo : Station → Whom → Message → Bool
-waitsTo s Nobody m = false
-waitsTo s (Member p) m = fits (WaitingFor (flight (awaitedOf s)) p) m
-
--- it is the one in flight
-abbrev pub flying : Station → Message → Bool
-flying s m = flies (flight (awaitedOf s)) m
-
--- from s to t the waiting messages to w leave, and the one in flight if it is given up (`flew`) or acknowledged (`landed`); the others remain
--- in order of acceptance; told are the waiting ones in order of acceptance, then the one in flight if it is given up
-pub record Leaves (s t : Station) (gone : Messages) (w : Whom) (flew landed : Bool) : Type 0 where
-  pub remaining : all (t .sends) ≡ only (λ (m : Message). not (waitsTo s w m || ((flew || landed) && flying s m))) (all (s .sends))
-  pub told : all gone ≡ only (waitsTo s w) (all (s .sends)) ++ only (λ (m : Message). flew && flying s m) (all (s .sends))
-
--- the same of a call's answer
-abbrev pub AnswerLeaves : Station → Whom → Bool → Bool → Answer → Type 0
-AnswerLeaves s w flew landed a = Leaves s (a .station) (a .gone) w flew landed
 
 -- a step after it that keeps the send list
 pub leaves-then : (s t u : Station) (gone : Messages) (w : Whom) (flew landed : Bool) → Leaves s t gone w flew landed → u .sends ≡ t .sends
@@ -116,16 +94,6 @@ module _ (s : Station) (p : ℕ) where
         not-both false false = refl
 
 -- ---- a heard failing station
-
--- another than this one
-abbrev pub anotherThan : ℕ → Whom → Whom
-anotherThan own Nobody = Nobody
-anotherThan own (Member p) = pick (eqb p own) Nobody (Member p)
-
--- the station stops when it is struck: Excluded where it is this station, Alone where nobody else is left
-abbrev pub stops : Station → Whom → Bool
-stops s Nobody = false
-stops s (Member p) = pick (eqb p (s .own)) true (alone (strike s p))
 
 module _ (s : Station) (a : apart [] (all (s .sends)) ≡ true) (h : length (all (s .sends)) ≤ 16) where
   abbrev StruckLeaves : Struck → Whom → Bool → Type 0

@@ -11,8 +11,8 @@ use Rattle.codec.specs.Order.{firstOf}
 use Rattle.parts.specs.Choose.{pick, every}
 use Rattle.parts.specs.Messages.{all, pack, pushed, only, fits, splitBy, noBest, theBest, betterOf, bestOf, best}
 use Rattle.parts.specs.Live.{liveAt}
-use Rattle.parts.specs.Frames.{numberOf, next}
-use Rattle.station.specs.Stations.{awaitedOf, addUpTo, head}
+use Rattle.parts.specs.Frames.{next}
+use Rattle.station.specs.Stations.{addUpTo, head}
 use Rattle.station.specs.Round.{sight}
 use Rattle.plain_rules.specs.Round.{priorityOf, startRound, sendHead, grant, returned, bidOf, cleared, raised, passOn, onToken, reply}
 use Rattle.parts.specs.declared.list.Message.{Message}
@@ -24,54 +24,12 @@ use Rattle.parts.specs.declared.frame.Whom.the-variants.{Nobody}
 use Rattle.parts.specs.declared.frame.TokenFrame.{TokenFrame}
 use Rattle.parts.specs.declared.frame.Frame.{Frame}
 use Rattle.parts.specs.declared.frame.Frame.the-variants.{Token, Transmit, Information}
-use Rattle.parts.specs.declared.frame.Dispatch.{Dispatch}
-use Rattle.parts.specs.declared.frame.Dispatch.the-variants.{Nothing, Sent}
 use Rattle.plain_rules.specs.declared.round.Bid.{Bid}
 use Rattle.plain_rules.specs.declared.round.Sight.{Sight}
-use Rattle.station.specs.declared.station.Handled.{Handled}
-use Rattle.station.specs.declared.station.Handled.the-variants.{Never, Last}
-use Rattle.station.specs.declared.station.Station.{Station}
 use Rattle.parts.proofs.Laws.Messages.{only-length, pushed-full}
 use Rattle.parts.proofs.Laws.Tests.{each-first, each-rest, each-snoc}
+use Rattle.station_theorems.specs.Small.{smallMessage, SmallFrame, SmallDispatch, SmallList}
 use Rattle.station_theorems.proofs.Laws.Kept.{each-only, pack-all, pack-length, push-all, push-length}
-
--- ---- what is small
-
-abbrev pub smallMessage : Message → Bool
-smallMessage m = ltb (m .priority) 256
-
-abbrev pub framePriority : Frame → ℕ
-framePriority (Token t) = t .priority
-framePriority (Transmit t) = t .priority
-framePriority (Information i) = i .priority
-
-pub record SmallFrame (f : Frame) : Type 0 where
-  pub number : numberOf f < 65536
-  pub priority : framePriority f < 256
-
-abbrev pub SmallDispatch : Dispatch → Type 0
-SmallDispatch Nothing = Unit {0}
-SmallDispatch (Sent frame to) = SmallFrame frame
-
-abbrev pub SmallHandled : Handled → Type 0
-SmallHandled Never = Unit {0}
-SmallHandled (Last k) = k < 65536
-
--- 16 slots, and the messages in them
-pub record SmallList (l : Messages) : Type 0 where
-  pub slots : length (l .items) ≡ 16
-  pub messages : every smallMessage (all l) ≡ true
-
--- a station of a ring of n with the retry limit `limit`
-pub record Small (n limit : ℕ) (s : Station) : Type 0 where
-  pub n-is : s .n ≡ n
-  pub limit-is : s .limit ≡ limit
-  pub sends : SmallList (s .sends)
-  pub receives : SmallList (s .receives)
-  pub awaited : SmallDispatch (awaitedOf s)
-  pub handled : SmallHandled (s .turn .handled)
-  pub lost : s .counts .lost < 4294967296
-  pub givenup : s .counts .givenup < 4294967296
 
 -- ---- of two, either is small
 

@@ -3,7 +3,6 @@ use mathlib.Core.Path.{_≡_, refl}
 use mathlib.Core.Bool.{Bool, true, false}
 use Prim.Native.Nat.{ℕ}
 use lib.Dec.{eqb, leb}
-use lib.ListN.{length}
 use borrow.Author.Tests.{eqb-true}
 use Rattle.parts.specs.Choose.{pick}
 use Rattle.parts.specs.Moves.{moveOf, runs}
@@ -15,12 +14,7 @@ use Rattle.parts.specs.declared.moves.Event.{Event}
 use Rattle.station.specs.declared.station.Station.{Station}
 use Rattle.station.specs.declared.station.Answer.{Answer}
 use Rattle.parts.proofs.Laws.Tests.{held, hold}
-
--- the arrays of a station have the lengths of their types
-pub record Shaped (s : Station) : Type 0 where
-  pub seats : length (s .live .on) ≡ 64
-  pub sends : length (s .sends .items) ≡ 16
-  pub receives : length (s .receives .items) ≡ 16
+use Rattle.station_theorems.specs.Shaped.{Shaped, WholeStation}
 
 -- whole, part by part
 pub record Sound (s : Station) : Type 0 where
@@ -56,11 +50,6 @@ unfolding whole listsGood
 sound-whole s k =
     hold _
     (k .ring, (k .seats, (k .company, (hold _ (k .sends, (k .receives, tt)), (k .waiters, (k .retries, (k .awaited, tt)))))))
-
--- a whole station whose arrays have the lengths of their types
-pub record WholeStation (s : Station) : Type 0 where
-  pub shaped : Shaped s
-  pub is-whole : whole s ≡ true
 
 pub whole-sound : (s : Station) → WholeStation s → Sound s
 whole-sound s w = sound s (w .shaped) (w .is-whole)

@@ -9,7 +9,7 @@ use Rattle.parts.specs.Frames.{numberOf, failingOf}
 use Rattle.station.specs.Stations.{stateOf, awaitedOf, quiet, answered, moved, unless}
 use Rattle.station.specs.Strike.{Loss, Struck, strike, nothingGone, giveUpTo, stopped}
 use Rattle.plain_rules.specs.Heard.{newly}
-use Rattle.station.specs.Heard.{landed, acknowledge, strikeOther, strikeHeard, failed, receive, stored, handle, respond, heard, checks, frameRule}
+use Rattle.station.specs.Heard.{Stored, landed, acknowledge, strikeOther, strikeHeard, failed, receive, stored, handle, respond, heard, checks, frameRule}
 use Rattle.station.specs.Timer.{again, unanswered, afterStrike, silence, onTimer, timerRule}
 use Rattle.parts.specs.declared.moves.State.{State}
 use Rattle.parts.specs.declared.moves.State.the-variants.{Offline, Idle, Waiting, Alone, Excluded}
@@ -24,7 +24,6 @@ use Rattle.parts.specs.declared.frame.Dispatch.{Dispatch}
 use Rattle.parts.specs.declared.frame.Dispatch.the-variants.{Nothing, Sent}
 use Rattle.station.specs.declared.station.Station.{Station}
 use Rattle.station.specs.declared.station.Answer.{Answer}
-use Rattle.station.specs.declared.rules.heard.Stored.{Stored}
 use Rattle.station_theorems.proofs.Laws.Telling.{pick-either, Tells, Same, Lost, lost-itself, lost-to, tells-none, tells-through, tells-told, tells-flight}
 
 -- the timer runs when Waiting only

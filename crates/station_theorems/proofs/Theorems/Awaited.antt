@@ -2,8 +2,8 @@
 -- its information frame": what whole's test of the awaited frame says. Assumes nothing.
 use mathlib.Core.Path.{_≡_, refl, sym, ap, subst, _∙_}
 use mathlib.Core.Bool.{Bool, true, false, not, false≢true}
-use mathlib.Core.List.{[], List·Memᴰ}
-use Prim.Native.Nat.{ℕ, _<_, _≤_}
+use mathlib.Core.List.{[]}
+use Prim.Native.Nat.{ℕ, _<_}
 use native.Mathlib.Omega.{arith}
 use borrow.Author.Tests.{ltb-true, ltb-false, leb-true, leb-false, eqb-true, eqb-false, not-true, lt-ltb, le-ltb, le-leb, lt-leb, eq-eqb, ne-eqb}
 use Rattle.parts.specs.Moves.{isWaiting}
@@ -11,20 +11,18 @@ use Rattle.parts.specs.Messages.{all, fits, best, bestOf, noBest, theBest}
 use Rattle.parts.specs.Frames.{memberOrNobody, fit}
 use Rattle.wholeness.specs.Whole.{apart, sameMessage, carried, awaitedGood}
 use Rattle.parts.specs.declared.moves.State.{State}
-use Rattle.parts.specs.declared.moves.State.the-variants.{Waiting}
 use Rattle.parts.specs.declared.list.Message.{Message}
 use Rattle.parts.specs.declared.list.Messages.{Messages}
 use Rattle.parts.specs.declared.list.Best.{Best}
 use Rattle.parts.specs.declared.list.Which.the-variants.{HasPlace}
 use Rattle.parts.specs.declared.frame.Whom.{Whom}
 use Rattle.parts.specs.declared.frame.Whom.the-variants.{Nobody, Member}
-use Rattle.parts.specs.declared.frame.TokenFrame.{TokenFrame}
-use Rattle.parts.specs.declared.frame.TransmitFrame.{TransmitFrame}
 use Rattle.parts.specs.declared.frame.InformationFrame.{InformationFrame}
 use Rattle.parts.specs.declared.frame.Frame.{Frame}
 use Rattle.parts.specs.declared.frame.Frame.the-variants.{Token, Transmit, Information}
 use Rattle.parts.specs.declared.frame.Dispatch.{Dispatch}
 use Rattle.parts.specs.declared.frame.Dispatch.the-variants.{Nothing, Sent}
+use Rattle.station_theorems.specs.Awaited.{Fit, Carrying, Proper, Awaited}
 use Rattle.station_theorems.proofs.Laws.States.{waiting-is}
 use Rattle.parts.proofs.Laws.Tests.{held, hold}
 use Rattle.station_theorems.proofs.Laws.Carried.{best-found}
@@ -33,26 +31,6 @@ use Rattle.station_theorems.proofs.Laws.Members.{standing, stood}
 use Rattle.station_theorems.proofs.Theorems.Head.{best-is-first}
 
 -- ---- fit to write: members, and fields in range
-
-pub record FitToken (n : ℕ) (t : TokenFrame) : Type 0 where
-  pub master-member : t .master < n
-  pub named-member : t .named < n
-  pub failing-member : (p : ℕ) → t .failing ≡ Member p → p < n
-
-pub record FitTransmit (n : ℕ) (t : TransmitFrame) : Type 0 where
-  pub some-priority : t .priority ≡ 0 → ⊥
-  pub master-member : t .master < n
-  pub named-member : t .named < n
-
-pub record FitInformation (i : InformationFrame) : Type 0 where
-  pub some-priority : i .priority ≡ 0 → ⊥
-  pub channel-fits : i .channel ≤ 7
-  pub length-fits : i .length ≤ 1492
-
-abbrev pub Fit : ℕ → Frame → Type 0
-Fit n (Token t) = FitToken n t
-Fit n (Transmit t) = FitTransmit n t
-Fit n (Information i) = FitInformation i
 
 failing-fits : (n : ℕ) (w : Whom) → memberOrNobody n w ≡ true → (p : ℕ) → w ≡ Member p → p < n
 failing-fits n Nobody e p q = absurd (let z : _≡_ {A = ℕ} 0 1 = cc in omega arith)
@@ -85,20 +63,6 @@ is-fit n (Information i) k =
     pass (ne-eqb (i .priority) 0 (k .some-priority)) (pass (le-ltb 7 (i .channel) (k .channel-fits)) (le-leb (i .length) 1492 (k .length-fits)))
 
 -- ---- the message of an information frame is in the send list
-
-pub record Carries (l : Messages) (to : ℕ) (i : InformationFrame) : Type 0 where
-  pub message : Message
-  pub there : List·Memᴰ message (all l)
-  pub same-place : message .place ≡ i .place
-  pub same-other : message .other ≡ to
-  pub same-priority : message .priority ≡ i .priority
-  pub same-channel : message .channel ≡ i .channel
-  pub same-length : message .length ≡ i .length
-
-abbrev pub Carrying : Messages → Frame → ℕ → Type 0
-Carrying l (Token t) to = Unit {0}
-Carrying l (Transmit t) to = Unit {0}
-Carrying l (Information i) to = Carries l to i
 
 carries-is : (l : Messages) (f : Frame) (to : ℕ) → carried l f to ≡ true → Carrying l f to
 unfolding carried sameMessage fits
@@ -135,17 +99,6 @@ is-carried l a (Information i) to k =
     (k .same-other) (k .same-priority) (k .same-channel) (k .same-length)
 
 -- ---- the awaited frame
-
-pub record Proper (n own : ℕ) (l : Messages) (f : Frame) (to : ℕ) : Type 0 where
-  pub fits-to-write : Fit n f
-  pub member : to < n
-  pub another : to ≡ own → ⊥
-  pub carries : Carrying l f to
-
-pub record Awaited (st : State) (n own : ℕ) (l : Messages) (d : Dispatch) : Type 0 where
-  pub one-when-waiting : st ≡ Waiting → (f : Frame) × (to : ℕ) × (d ≡ Sent f to)
-  pub none-otherwise : (st ≡ Waiting → ⊥) → d ≡ Nothing
-  pub each-proper : (f : Frame) (to : ℕ) → d ≡ Sent f to → Proper n own l f to
 
 pub awaited-is : (st : State) (n own : ℕ) (l : Messages) (d : Dispatch) → awaitedGood st n own l d ≡ true → Awaited st n own l d
 unfolding awaitedGood

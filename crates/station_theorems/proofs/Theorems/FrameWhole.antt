@@ -19,7 +19,8 @@ use Rattle.parts.specs.declared.moves.State.the-variants.{Idle}
 use Rattle.parts.specs.declared.moves.Event.the-variants.{Heard}
 use Rattle.parts.specs.declared.frame.Frame.{Frame}
 use Rattle.station.specs.declared.station.Station.{Station}
-use Rattle.station_theorems.proofs.Laws.Sound.{Sound, WholeStation, whole-sound, whole-station, moved-sound, unless-sound}
+use Rattle.station_theorems.specs.Shaped.{WholeStation}
+use Rattle.station_theorems.proofs.Laws.Sound.{Sound, whole-sound, whole-station, moved-sound, unless-sound}
 use Rattle.station_theorems.proofs.Laws.States.{idle-is}
 use Rattle.station_theorems.proofs.Laws.Acknowledged.{Onward, acknowledge-hearing}
 use Rattle.station_theorems.proofs.Laws.Failed.{failed-onward}
@@ -62,7 +63,7 @@ sender n own alive from to e =
     let t = none-holds 0 ts (other, (other, (other, (other, (other, tt))))) e in
     (leb-false n from (t .0), eqb-false from own (t .1 .1 .1 .1 .0))
 
-pub frame-sound : (s : Station) (f : Frame) (from to : ℕ) → fit (s .n) f ≡ true → Sound s → Sound (frameRule s f from to .station)
+frame-sound : (s : Station) (f : Frame) (from to : ℕ) → fit (s .n) f ≡ true → Sound s → Sound (frameRule s f from to .station)
 unfolding frameRule
 frame-sound s f from to e k =
     moved-sound s k _ _

@@ -1,9 +1,7 @@
 -- The given-up count: after a heard frame and after the timer it is more by exactly the number of messages told, up to its stop 4,294,967,295.
 -- Assumes nothing.
 use mathlib.Core.Path.{_≡_, sym, ap, _∙_}
-use Prim.Native.Nat.{ℕ, _+_, _≤_}
-use lib.ListN.{length}
-use Rattle.parts.specs.Messages.{all}
+use Prim.Native.Nat.{ℕ}
 use Rattle.station.specs.Stations.{addUpTo}
 use Rattle.parts.specs.Frames.{failingOf}
 use Rattle.station.specs.Heard.{heard, frameRule}
@@ -13,17 +11,9 @@ use Rattle.parts.specs.declared.frame.Whom.the-variants.{Nobody, Member}
 use Rattle.parts.specs.declared.frame.Frame.{Frame}
 use Rattle.station.specs.declared.station.Station.{Station}
 use Rattle.station.specs.declared.station.Answer.{Answer}
+use Rattle.station_theorems.specs.GivenUp.{messagesTold, CountsGivenUp}
 use Rattle.station_theorems.proofs.Laws.Telling.{roomy-length, counts-all, counts-stop}
 use Rattle.station_theorems.proofs.Laws.Told.{AnswerFrom, tells-hearing, tells-answered, tells-again, tells-last, either-frame, either-timer}
-
--- how many messages an answer tells
-abbrev pub messagesTold : Answer → ℕ
-messagesTold a = length (all (a .gone))
-
--- a station's count is of its field's type, 32 bits, as every station that the code holds
-pub record CountsGivenUp (s : Station) (a : Answer) : Type 0 where
-  pub counts-exactly : s .counts .givenup + messagesTold a ≤ 4294967295 → a .station .counts .givenup ≡ s .counts .givenup + messagesTold a
-  pub counts-up-to : s .counts .givenup ≤ 4294967295 → 4294967295 ≤ s .counts .givenup + messagesTold a → a .station .counts .givenup ≡ 4294967295
 
 counts : (s : Station) (a : Answer) (w : Whom) → AnswerFrom s w a → CountsGivenUp s a
 counts s a w t =

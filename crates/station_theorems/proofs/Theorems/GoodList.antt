@@ -2,8 +2,8 @@
 -- end": what whole's test of a list says. Assumes nothing.
 use mathlib.Core.Path.{_≡_, refl, sym, ap, _∙_}
 use mathlib.Core.Bool.{true, not}
-use mathlib.Core.List.{List, [], _∷_, List·Memᴰ}
-use Prim.Native.Nat.{ℕ, zero, suc, _+_, _-_, _<_, _≤_}
+use mathlib.Core.List.{List, [], _∷_}
+use Prim.Native.Nat.{ℕ, zero, suc, _+_, _-_, _<_}
 use native.Mathlib.Omega.{arith}
 use lib.ListN.{length, getD, drop, length-drop}
 use lib.Seq.{getD-drop}
@@ -15,23 +15,9 @@ use Rattle.parts.specs.declared.list.Message.{Message}
 use Rattle.parts.specs.declared.list.Messages.{Messages}
 use Rattle.parts.proofs.Laws.Messages.{place-none}
 use Rattle.parts.proofs.Laws.Tests.{held, hold, each-none, each-first, each-rest, each}
+use Rattle.station_theorems.specs.GoodList.{GoodMessage, GoodList}
 use Rattle.station_theorems.proofs.Laws.Kept.{list-short, list-messages, list-apart, list-blank, list-made}
 use Rattle.station_theorems.proofs.Laws.Members.{each-member, each-of, apart-at, apart-of}
-
--- fields in range, and another member as its other end
-pub record GoodMessage (n own : ℕ) (m : Message) : Type 0 where
-  pub place-fits : m .place < 16
-  pub some-priority : m .priority ≡ 0 → ⊥
-  pub channel-fits : m .channel ≤ 7
-  pub length-fits : m .length ≤ 1492
-  pub member : m .other < n
-  pub another : m .other ≡ own → ⊥
-
-pub record GoodList (n own : ℕ) (l : Messages) : Type 0 where
-  pub at-most-sixteen : l .len ≤ 16
-  pub each-good : (m : Message) → List·Memᴰ m (all l) → GoodMessage n own m
-  pub own-places : (i j : ℕ) → i < j → j < length (all l) → getD (all l) i blank .place ≡ getD (all l) j blank .place → ⊥
-  pub blank-behind : (i : ℕ) → l .len ≤ i → i < 16 → getD (l .items) i blank ≡ blank
 
 -- ---- a message
 

@@ -19,20 +19,7 @@ use Rattle.parts.specs.Messages.{all, fits, noBest, theBest, betterOf, bestOf, 
 use Rattle.parts.specs.Frames.{flight}
 use Rattle.station.specs.Stations.{awaitedOf, head}
 use Rattle.parts.proofs.Laws.Messages.{best-none, best-more, better-unfit, better-first, better-higher, better-kept}
-
--- m stands in the list and fits; of those that fit, each before it is of a lower priority, and none behind it of a higher one
-pub record First (w : Which) (ms : List Message) (m : Message) : Type 0 where
-  pub before : List Message
-  pub behind : List Message
-  pub stands : ms ≡ before ++ (m ∷ behind)
-  pub fitting : fits w m ≡ true
-  pub lower-before : (x : Message) → List·Memᴰ x before → fits w x ≡ true → x .priority < m .priority
-  pub none-higher-behind : (x : Message) → List·Memᴰ x behind → fits w x ≡ true → x .priority ≤ m .priority
-
--- what a search of the list has found
-pub record Chosen (w : Which) (ms : List Message) (b : Best) : Type 0 where
-  pub first : b .some ≡ true → First w ms (b .message)
-  pub none-fits : b .some ≡ false → (x : Message) → List·Memᴰ x ms → fits w x ≡ false
+use Rattle.station_theorems.specs.Head.{First, Chosen}
 
 -- a flag is not both
 apart : {t : Bool} → t ≡ true → t ≡ false → ⊥

@@ -2,8 +2,8 @@
 -- the five calls, for a station whose send list fits, as that of each whole station. Assumes nothing.
 use mathlib.Core.Path.{_≡_, refl, sym, subst}
 use mathlib.Core.Bool.{Bool, true, false, false≢true}
-use mathlib.Core.List.{[], _∷_, _++_, List·Memᴰ, List·Memᴰ·not-nil, Memᴰ·append-left}
-use mathlib.Core.Logic.{_⊎_, inl}
+use mathlib.Core.List.{[], _∷_, List·Memᴰ, List·Memᴰ·not-nil, Memᴰ·append-left}
+use mathlib.Core.Logic.{inl}
 use Prim.Native.Nat.{ℕ, _≤_}
 use native.Mathlib.Omega.{arith}
 use lib.Dec.{eqb}
@@ -12,16 +12,15 @@ use borrow.Author.Tests.{eqb-true}
 use Rattle.parts.specs.Moves.{moveOf, runs}
 use Rattle.parts.specs.Live.{liveAt}
 use Rattle.parts.specs.Messages.{all, none, hasPlace}
-use Rattle.parts.specs.Frames.{numberOf}
 use Rattle.station.specs.Stations.{stateOf, answered, moved, unless}
 use Rattle.station.specs.Start.{started, startRule}
-use Rattle.station.specs.Heard.{acknowledged, heard, checks, frameRule}
+use Rattle.station.specs.Heard.{heard, frameRule}
 use Rattle.station.specs.Timer.{again, timerRule}
 use Rattle.station.specs.Queue.{newMessage, accepted, queueNumber, queueRule}
 use Rattle.station.specs.Take.{taking, takeRule}
-use Rattle.wholeness.specs.Whole.{apart, whole}
+use Rattle.wholeness.specs.Whole.{whole}
 use Rattle.parts.specs.declared.moves.Event.{Event}
-use Rattle.parts.specs.declared.moves.Event.the-variants.{Start, Heard, Queue, Take}
+use Rattle.parts.specs.declared.moves.Event.the-variants.{Start, Queue, Take}
 use Rattle.parts.specs.declared.list.Message.{Message}
 use Rattle.parts.specs.declared.request.Request.{Request}
 use Rattle.parts.specs.declared.frame.Whom.{Whom}
@@ -29,6 +28,9 @@ use Rattle.parts.specs.declared.frame.Whom.the-variants.{Nobody}
 use Rattle.parts.specs.declared.frame.Frame.{Frame}
 use Rattle.station.specs.declared.station.Station.{Station}
 use Rattle.station.specs.declared.station.Answer.{Answer}
+use Rattle.station_theorems.specs.Leaving.{SendsFit, LeaveOnly, Acknowledged, KeepsSends, Joins}
+use Rattle.station_theorems.specs.Shaped.{Shaped}
+use Rattle.station_theorems.specs.Leaves.{flying, Leaves, AnswerLeaves}
 use Rattle.station_theorems.proofs.Laws.Telling.{pick-either}
 use Rattle.station_theorems.proofs.Laws.Told.{either-frame, either-timer}
 use Rattle.station.proofs.Laws.Moved.{moved-runs, unless-passes}
@@ -36,17 +38,12 @@ use Rattle.station.proofs.Laws.Heard.{frame-runs}
 use Rattle.plain_rules.proofs.Laws.Queue.{queue-good}
 use Rattle.station_theorems.proofs.Laws.Kept.{list-short, list-apart, push-all}
 use Rattle.station_theorems.proofs.Laws.Places.{place-nobodys}
-use Rattle.station_theorems.proofs.Laws.Sound.{Shaped, sound}
-use Rattle.station_theorems.proofs.Laws.Leaves.{flying, Leaves, AnswerLeaves, leaves-none}
+use Rattle.station_theorems.proofs.Laws.Sound.{sound}
+use Rattle.station_theorems.proofs.Laws.Leaves.{leaves-none}
 use Rattle.station_theorems.proofs.Laws.Landed.{heard-leaves, last-leaves}
 use Rattle.station_theorems.proofs.Laws.Fates.{frees, landed-frees, one-of-told, one-of-old}
 
 -- ---- a send list that fits: an array of 16, at most 16 messages, each with its own place
-
-pub record SendsFit (s : Station) : Type 0 where
-  pub array : length (s .sends .items) ≡ 16
-  pub most : s .sends .len ≤ 16
-  pub places : apart [] (all (s .sends)) ≡ true
 
 pub whole-fits : (s : Station) → Shaped s → whole s ≡ true → SendsFit s
 whole-fits s h w =
@@ -57,16 +54,6 @@ pub few : (s : Station) → SendsFit s → length (all (s .sends)) ≤ 16
 few s h = omega (arith, length-take (s .sends .len) (s .sends .items), h .most)
 
 -- ---- who leaves
-
--- `acked` says when the message in flight, the one that flies, leaves by an acknowledgement
-pub record LeaveOnly (s : Station) (a : Answer) (acked : Type 0) : Type 0 where
-  -- each message stays, or is told as given up, or is the one in flight and acknowledged
-  pub stays-or-told : (m : Message) → List·Memᴰ m (all (s .sends))
-      → List·Memᴰ m (all (a .station .sends)) ⊎ (List·Memᴰ m (all (a .gone)) ⊎ (acked × (flying s m ≡ true)))
-  -- what is told stood in the list, stands in it no longer, and its place is free
-  pub told-stood : (m : Message) → List·Memᴰ m (all (a .gone)) → List·Memᴰ m (all (s .sends))
-  pub told-left : (m : Message) → List·Memᴰ m (all (a .gone)) → List·Memᴰ m (all (a .station .sends)) → ⊥
-  pub told-place-free : (m : Message) → List·Memᴰ m (all (a .gone)) → hasPlace (all (a .station .sends)) (m .place) ≡ false
 
 -- by what leaves
 leave-only : (s : Station) → SendsFit s → (a : Answer) (w : Whom) (flew landed : Bool) → AnswerLeaves s w flew landed a
@@ -88,11 +75,6 @@ kept s fit acked a e g =
     leave-only s fit a Nobody false false (subst (λ l. Leaves s (a .station) l Nobody false false) (sym g) (leaves-none s (a .station) e)) acked (λ z. absurd (false≢true z))
 
 -- ---- a heard frame: the one in flight leaves where the frame is heard, passes the checks and acknowledges the station
-
-pub record Acknowledged (s : Station) (f : Frame) (from to : ℕ) : Type 0 where
-  pub hears : moveOf (stateOf s) Heard ≡ runs
-  pub passed : checks s from to ≡ 0
-  pub answers : acknowledged s from (numberOf f) ≡ true
 
 pub frame-leaves-only : (s : Station) → SendsFit s → (f : Frame) (from to : ℕ) → LeaveOnly s (frameRule s f from to) (Acknowledged s f from to)
 frame-leaves-only s fit f from to =
@@ -125,11 +107,6 @@ module _ (P : Answer → Type 0) (s : Station) (alone-holds : (n : ℕ) → P (a
   unfolding unless
   either-unless number a h = pick-either P (eqb number 0) a _ (λ t. h (eqb-true number 0 t)) (λ t. alone-holds _)
 
--- start and take keep the send list and tell no message
-pub record KeepsSends (s : Station) (a : Answer) : Type 0 where
-  pub sends-same : a .station .sends ≡ s .sends
-  pub none-told : a .gone ≡ none
-
 number-keeps : (s : Station) (n : ℕ) → KeepsSends s (answered s n)
 number-keeps s n = record { sends-same = refl; none-told = refl }
 
@@ -152,11 +129,6 @@ pub take-leaves-only : (s : Station) → SendsFit s → (channel room : ℕ) →
 take-leaves-only s fit channel room = let k = take-keeps s channel room in kept s fit ⊥ (takeRule s channel room) (k .sends-same) (k .none-told)
 
 -- ---- queue: an accepted message joins at the end
-
--- from s to an answer m joins
-pub record Joins (s : Station) (m : Message) (a : Answer) : Type 0 where
-  pub joined : all (a .station .sends) ≡ all (s .sends) ++ m ∷ []
-  pub none-told : all (a .gone) ≡ []
 
 module _ (s : Station) (fit : SendsFit s) (q : Request) where
   accepted-joins : queueNumber s q ≡ 0 → Joins s (newMessage s q) (accepted s q)

@@ -11,25 +11,9 @@ use Rattle.wholeness.specs.Whole.{ownSeat, otherSeat, seatsGood, companyGood}
 use Rattle.parts.specs.declared.moves.State.{State}
 use Rattle.parts.specs.declared.moves.State.the-variants.{Offline, Idle, Waiting, Alone, Excluded}
 use Rattle.parts.specs.declared.live.Live.{Live}
+use Rattle.station_theorems.specs.LiveSet.{Company, LiveSet}
 use Rattle.station_theorems.proofs.Laws.Seats.{Seats, seated, seating}
 use Rattle.station_theorems.proofs.Theorems.Successor.{successor-is}
-
--- this station and at least one other
-pub record Company (n own : ℕ) (l : Live) : Type 0 where
-  pub itself : liveAt l own ≡ true
-  pub another : ℕ
-  pub member : another < n
-  pub not-itself : another ≡ own → ⊥
-  pub lives : liveAt l another ≡ true
-
-pub record LiveSet (st : State) (n own : ℕ) (l : Live) : Type 0 where
-  pub members-only : (p : ℕ) → liveAt l p ≡ true → p < n
-  pub all-when-offline : st ≡ Offline → (p : ℕ) → p < n → liveAt l p ≡ true
-  pub company-when-idle : st ≡ Idle → Company n own l
-  pub company-when-waiting : st ≡ Waiting → Company n own l
-  pub itself-when-alone : st ≡ Alone → liveAt l own ≡ true
-  pub no-other-when-alone : st ≡ Alone → (p : ℕ) → (p ≡ own → ⊥) → liveAt l p ≡ false
-  pub not-itself-when-excluded : st ≡ Excluded → liveAt l own ≡ false
 
 module _ (st : State) (n own : ℕ) (l : Live) (long : length (l .on) ≡ 64) (most : n ≤ 64) (inside : own < n) where
   -- where own has a successor, it has company

@@ -17,9 +17,10 @@ use Rattle.parts.specs.declared.moves.State.the-variants.{Offline}
 use Rattle.parts.proofs.Laws.Choose.{pick-true, pick-false}
 use Rattle.parts.proofs.Laws.Tests.{both, each-none}
 use Rattle.parts.proofs.Laws.Live.{seats-inside, seats-all, seats-most}
+use Rattle.station_theorems.specs.Shaped.{Shaped, WholeStation}
 use Rattle.station_theorems.proofs.Laws.Kept.{list-made, apart-end, pack-rest}
 use Rattle.station_theorems.proofs.Laws.Based.{ring-good}
-use Rattle.station_theorems.proofs.Laws.Sound.{Shaped, Sound, WholeStation, whole-station}
+use Rattle.station_theorems.proofs.Laws.Sound.{Sound, whole-station}
 
 -- ---- the seats: the first n are live, the others are not
 
@@ -71,7 +72,7 @@ module _ (n limit own : ℕ) (low : 2 ≤ n) (high : n ≤ 64) where
   unfolding pack
   made-list = list-made n own none (omega arith) (each-none _) (apart-end []) (pack-rest [])
 
-  pub made-sound : 1 ≤ limit → limit ≤ 15 → own < n → Sound (made n limit own)
+  made-sound : 1 ≤ limit → limit ≤ 15 → own < n → Sound (made n limit own)
   unfolding companyGood waitersGood awaitedGood
   made-sound a b c =
       record {

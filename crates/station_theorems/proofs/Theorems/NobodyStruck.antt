@@ -1,10 +1,9 @@
 -- Start, queue and take strike nobody and give nothing up: the live set and the count stay. Assumes nothing.
-use mathlib.Core.Path.{_≡_, refl}
+use mathlib.Core.Path.{refl}
 use mathlib.Core.Bool.{Bool, true, false}
 use Prim.Native.Nat.{ℕ}
 use lib.Dec.{eqb}
 use Rattle.parts.specs.Choose.{pick}
-use Rattle.parts.specs.Messages.{none}
 use Rattle.station.specs.Stations.{answered, moved, unless}
 use Rattle.station.specs.Start.{started, startRule}
 use Rattle.station.specs.Queue.{accepted, queueRule}
@@ -12,16 +11,9 @@ use Rattle.station.specs.Take.{taking, takeRule}
 use Rattle.parts.specs.declared.list.Message.{Message}
 use Rattle.parts.specs.declared.request.Request.{Request}
 use Rattle.parts.specs.declared.moves.Event.{Event}
-use Rattle.parts.specs.declared.frame.Whom.the-variants.{Nobody}
 use Rattle.station.specs.declared.station.Station.{Station}
 use Rattle.station.specs.declared.station.Answer.{Answer}
-
--- an answer to the station s that strikes nobody
-pub record StrikesNobody (s : Station) (a : Answer) : Type 0 where
-  pub nobody-struck : a .struck ≡ Nobody
-  pub live-kept : a .station .live ≡ s .live
-  pub none-given-up : a .gone ≡ none
-  pub count-kept : a .station .counts .givenup ≡ s .counts .givenup
+use Rattle.station_theorems.specs.NobodyStruck.{StrikesNobody}
 
 number-alone : (s : Station) (number : ℕ) → StrikesNobody s (answered s number)
 number-alone s number = record { nobody-struck = refl; live-kept = refl; none-given-up = refl; count-kept = refl }

@@ -26,12 +26,13 @@ use Rattle.parts.specs.declared.frame.Dispatch.{Dispatch}
 use Rattle.parts.specs.declared.frame.Dispatch.the-variants.{Nothing, Sent}
 use Rattle.station.specs.declared.station.Station.{Station}
 use Rattle.parts.proofs.Laws.Choose.{pick-true, pick-false}
+use Rattle.station_theorems.specs.Shaped.{WholeStation}
 use Rattle.station_theorems.proofs.Laws.Places.{lowest-free-free, lowest-free-room}
 use Rattle.plain_rules.proofs.Laws.Queue.{queue-good}
 use Rattle.parts.proofs.Laws.Tests.{held, hold, each-snoc}
 use Rattle.station_theorems.proofs.Laws.Kept.{push-all, push-length, list-pushed}
 use Rattle.station_theorems.proofs.Laws.Carried.{best-pushed}
-use Rattle.station_theorems.proofs.Laws.Sound.{Sound, WholeStation, whole-sound, whole-station, moved-sound, unless-sound}
+use Rattle.station_theorems.proofs.Laws.Sound.{Sound, whole-sound, whole-station, moved-sound, unless-sound}
 
 -- one more waiter, to a live station
 waiters-pushed : (st : State) (l : Live) (f : Flight) (ms : List Message) (m : Message) → liveAt l (m .other) ≡ true
@@ -105,7 +106,7 @@ module _ (s : Station) (q : Request) where
         awaited = awaited-pushed (s .sends) m (k .shaped .sends) (g .room) own-place (s .turn .state) (s .n) (s .own) (s .turn .awaited) (k .awaited);
       }
 
-  pub queue-sound : Sound s → Sound (queueRule s q .station)
+  queue-sound : Sound s → Sound (queueRule s q .station)
   unfolding queueRule
   queue-sound k = moved-sound s k _ _ (λ r. unless-sound s k _ _ (λ z. accepted-sound k z))
 

@@ -6,7 +6,6 @@ use Prim.Native.Nat.{ℕ}
 use native.Mathlib.Omega.{arith}
 use lib.Dec.{eqb, ltb}
 use Rattle.parts.specs.Choose.{pick}
-use Rattle.parts.specs.Messages.{none}
 use Rattle.parts.specs.Frames.{numberOf}
 use Rattle.station.specs.Strike.{Struck}
 use Rattle.station.specs.Stations.{stateOf, awaitedOf, answered, moved, unless, alone}
@@ -18,27 +17,14 @@ use Rattle.station.specs.Take.{taking, takeRule}
 use Rattle.parts.specs.declared.moves.State.the-variants.{Idle}
 use Rattle.parts.specs.declared.moves.Event.{Event}
 use Rattle.parts.specs.declared.moves.Event.the-variants.{Timer}
-use Rattle.parts.specs.declared.frame.Whom.the-variants.{Nobody}
 use Rattle.parts.specs.declared.frame.Frame.{Frame}
 use Rattle.parts.specs.declared.frame.Dispatch.{Dispatch}
 use Rattle.parts.specs.declared.frame.Dispatch.the-variants.{Nothing, Sent}
 use Rattle.parts.specs.declared.request.Request.{Request}
 use Rattle.station.specs.declared.station.Station.{Station}
-use Rattle.station.specs.declared.station.Payload.the-variants.{NoPayload}
 use Rattle.station.specs.declared.station.Answer.{Answer}
 use Rattle.station.proofs.Laws.Moved.{moved-stops}
-
--- an answer that does nothing to the station s
-pub record NothingDone (s : Station) (a : Answer) : Type 0 where
-  pub station-kept : a .station ≡ s
-  pub no-frame : a .sent ≡ Nothing
-  pub nobody-struck : a .struck ≡ Nobody
-  pub none-given-up : a .gone ≡ none
-  pub no-payload : a .payload ≡ NoPayload
-
--- an answer that does nothing where its number is not 0
-abbrev pub Refuses : Station → Answer → Type 0
-Refuses s a = (a .number ≡ 0 → ⊥) → NothingDone s a
+use Rattle.station_theorems.specs.Refusals.{NothingDone, Refuses, Idles}
 
 -- ---- the law: what the table of moves and a refusal put before a call keeps this
 
@@ -121,10 +107,6 @@ unfolding takeRule taking
 take-refuses s channel room = refuses-moved s _ (refuses-unless s _ (done refl))
 
 -- ---- "does nothing and gives 0 when Idle"
-
-pub record Idles (s : Station) (a : Answer) : Type 0 where
-  pub gives-zero : a .number ≡ 0
-  pub nothing-done : NothingDone s a
 
 timer-idle : (s : Station) → stateOf s ≡ Idle → timerRule s ≡ answered s 0
 unfolding timerRule

@@ -2,47 +2,33 @@
 use mathlib.Core.Path.{_≡_, refl, ap, _∙_}
 use mathlib.Core.Bool.{Bool, true, false, not}
 use mathlib.Core.List.{[], _∷_}
-use Prim.Native.Nat.{ℕ, _+_, _<_, _≤_}
+use Prim.Native.Nat.{ℕ, _<_, _≤_}
 use lib.Dec.{eqb}
 use borrow.Author.Tests.{ne-eqb}
 use Rattle.codec.specs.Order.{firstOf}
 use Rattle.parts.specs.Moves.{moveOf}
 use Rattle.parts.specs.Live.{liveAt}
-use Rattle.parts.specs.Messages.{none}
-use Rattle.parts.specs.Frames.{numberOf, failingOf}
-use Rattle.station.specs.Stations.{stateOf, awaitedOf, alone}
+use Rattle.parts.specs.Frames.{numberOf}
+use Rattle.station.specs.Stations.{stateOf, alone}
 use Rattle.station.specs.Strike.{Struck, strike, giveUpTo, told}
 use Rattle.plain_rules.specs.Heard.{newly}
-use Rattle.station.specs.Heard.{acknowledged, acknowledge, strikeOther, strikeHeard, failed, isLast, nothingMore, respond, heard, checks, frameRule, silent}
+use Rattle.station.specs.Heard.{acknowledged, acknowledge, strikeOther, strikeHeard, failed, isLast, nothingMore, respond, heard, frameRule, silent}
 use Rattle.station.specs.Timer.{unanswered, afterStrike, timerRule}
 use Rattle.parts.specs.declared.moves.State.the-variants.{Waiting}
 use Rattle.parts.specs.declared.moves.Event.the-variants.{Heard}
 use Rattle.parts.specs.declared.frame.Whom.the-variants.{Nobody, Member}
 use Rattle.parts.specs.declared.frame.Frame.{Frame}
-use Rattle.parts.specs.declared.frame.Dispatch.the-variants.{Nothing, Sent}
 use Rattle.station.specs.declared.station.Station.{Station}
 use Rattle.station.specs.declared.station.Turn.{Turn}
-use Rattle.station.specs.declared.station.Answer.{Answer}
 use Rattle.parts.proofs.Laws.Choose.{pick-true, pick-false}
 use Rattle.station.proofs.Laws.Heard.{frame-runs}
 use Rattle.station.proofs.Laws.Timer.{timer-again, timer-last}
+use Rattle.station_theorems.specs.Resent.{Awaits, SentAgain, NobodyNew, NamesAddressee, StillAwaits}
+use Rattle.station_theorems.specs.Striking.{LastTimer}
 use Rattle.station_theorems.proofs.Laws.Telling.{struck-not-live, newly-not, gives-up-to}
-use Rattle.station_theorems.proofs.Theorems.Striking.{LastTimer, timer-strikes, timer-strikes-addressee}
-
--- a station waits for the acknowledgement of a frame to `to`
-pub record Awaits (s : Station) (f : Frame) (to : ℕ) : Type 0 where
-  pub waits : stateOf s ≡ Waiting
-  pub awaits : awaitedOf s ≡ Sent f to
+use Rattle.station_theorems.proofs.Theorems.Striking.{timer-strikes, timer-strikes-addressee}
 
 -- ---- below the limit, whether or not the addressee is live
-
-pub record SentAgain (s : Station) (f : Frame) (to : ℕ) (a : Answer) : Type 0 where
-  pub sent-same : a .sent ≡ Sent f to
-  pub still-awaits : Awaits (a .station) f to
-  pub one-retry-more : a .station .turn .retries ≡ s .turn .retries + 1
-  pub nobody-told : a .struck ≡ Nobody
-  pub none-given-up : a .gone ≡ none
-  pub live-same : a .station .live ≡ s .live
 
 pub sent-again : (s : Station) (f : Frame) (to : ℕ) → Awaits s f to → s .turn .retries < s .limit → SentAgain s f to (timerRule s)
 sent-again s f to w h =
@@ -61,10 +47,6 @@ sent-again s f to w h =
 -- what happens is by one definition, which asks of the addressee only whether it is newly struck
 pub last-timer : (s : Station) (f : Frame) (to : ℕ) → Awaits s f to → s .limit ≤ s .turn .retries → timerRule s ≡ afterStrike (unanswered s to) to f
 last-timer s f to w h = timer-last s f to (w .waits) (w .awaits) h
-
-pub record NobodyNew (s : Station) (a : Answer) : Type 0 where
-  pub nobody-told : a .struck ≡ Nobody
-  pub live-same : a .station .live ≡ s .live
 
 -- an addressee that is not live is not struck again
 pub strikes-nobody-new : (s : Station) (f : Frame) (to : ℕ) → Awaits s f to → s .limit ≤ s .turn .retries → liveAt (s .live) to ≡ false
@@ -95,21 +77,6 @@ struck-other : (s : Station) (p : ℕ) → (p ≡ s .own → ⊥) → alone (str
     → failed s (Member p) ≡ told (giveUpTo (strike s p) p) (newly (s .live) p)
 unfolding failed strikeHeard strikeOther
 struck-other s p o l = pick-false _ _ (ne-eqb _ _ o) ∙ pick-false _ _ l
-
--- a frame that is heard by a station that waits: the checks pass, it is no acknowledgement, and its failing station is the addressee, which is
--- not this station and not the last other one
-pub record NamesAddressee (s : Station) (g : Frame) (from at to : ℕ) : Type 0 where
-  pub passed : checks s from at ≡ 0
-  pub no-acknowledgement : acknowledged s from (numberOf g) ≡ false
-  pub failing-is : failingOf g ≡ Member to
-  pub another : to ≡ s .own → ⊥
-  pub others-left : alone (strike s to) ≡ false
-
-pub record StillAwaits (s : Station) (f : Frame) (to : ℕ) (a : Answer) : Type 0 where
-  pub awaits-it : Awaits (a .station) f to
-  pub turn-same : a .station .turn ≡ s .turn
-  pub nothing-sent : a .sent ≡ Nothing
-  pub struck-now : liveAt (a .station .live) to ≡ false
 
 pub struck-on-hearing : (s : Station) (f : Frame) (to : ℕ) (g : Frame) (from at : ℕ) → Awaits s f to → NamesAddressee s g from at to
     → StillAwaits s f to (frameRule s g from at)

@@ -18,11 +18,13 @@ use Rattle.parts.specs.declared.moves.State.the-variants.{Offline, Idle}
 use Rattle.parts.specs.declared.live.Live.{Live}
 use Rattle.parts.specs.declared.frame.Whom.the-variants.{Nobody}
 use Rattle.station.specs.declared.station.Station.{Station}
+use Rattle.station_theorems.specs.Whole.{Ring}
+use Rattle.station_theorems.specs.Shaped.{WholeStation}
 use Rattle.station_theorems.proofs.Laws.States.{starts}
 use Rattle.station_theorems.proofs.Laws.Seats.{Seats, seated}
-use Rattle.station_theorems.proofs.Laws.Based.{Ring, ringed, Based, based-on, quiet-idle, sends-off, idle-flight}
+use Rattle.station_theorems.proofs.Laws.Based.{ringed, Based, based-on, quiet-idle, sends-off, idle-flight}
 use Rattle.station_theorems.proofs.Laws.Sending.{round-proper}
-use Rattle.station_theorems.proofs.Laws.Sound.{Sound, WholeStation, whole-sound, whole-station, moved-sound}
+use Rattle.station_theorems.proofs.Laws.Sound.{Sound, whole-sound, whole-station, moved-sound}
 use Rattle.station_theorems.proofs.Theorems.Successor.{successor-is}
 
 -- where all members are live, there is another than own
@@ -61,7 +63,7 @@ module _ (s : Station) (k : Sound s) (off : stateOf s ≡ Offline) where
       go true = sends-off s based _ _ others (round-proper s (ring .member) (k .sends) others 0 Nobody refl)
       go false = quiet-idle s based others
 
-pub start-sound : (s : Station) → Sound s → Sound (startRule s .station)
+start-sound : (s : Station) → Sound s → Sound (startRule s .station)
 unfolding startRule
 start-sound s k = moved-sound s k _ _ (λ r. started-sound s k (starts (stateOf s) r))
 

@@ -16,7 +16,7 @@ use Rattle.plain_rules.specs.Round.{bidOf, ownBid, forward, startRound}
 use Rattle.station.specs.Start.{started, startRule}
 use Rattle.station.specs.Strike.{Loss, Struck, strike, giveUpTo, giveUpAt, giveUpFlight, leave, messageAt, nothingGone, told, stopped}
 use Rattle.plain_rules.specs.Heard.{newly}
-use Rattle.station.specs.Heard.{acknowledged, landed, acknowledge, strikeOther, strikeHeard, failed, nothingMore, heardMessage, receive, stored, handle, respond, heard, frameRule}
+use Rattle.station.specs.Heard.{Stored, acknowledged, landed, acknowledge, strikeOther, strikeHeard, failed, nothingMore, heardMessage, receive, stored, handle, respond, heard, frameRule}
 use Rattle.station.specs.Timer.{unanswered, afterStrike, silence, onTimer, timerRule}
 use Rattle.plain_rules.specs.Resend.{tokenAgain, renamed, resend}
 use Rattle.station.specs.Queue.{queueNumber, newMessage, accepted, queueRule}
@@ -34,7 +34,6 @@ use Rattle.parts.specs.declared.frame.Dispatch.the-variants.{Nothing, Sent}
 use Rattle.parts.specs.declared.moves.Event.{Event}
 use Rattle.parts.specs.declared.moves.State.{State}
 use Rattle.parts.specs.declared.moves.State.the-variants.{Idle, Alone, Excluded}
-use Rattle.station.specs.declared.rules.heard.Stored.{Stored}
 use Rattle.plain_rules.specs.declared.round.Sight.{Sight}
 use Rattle.plain_rules.specs.declared.round.Bid.{Bid}
 use Rattle.station.specs.declared.station.Handled.{Handled}
@@ -43,7 +42,8 @@ use Rattle.station.specs.declared.station.Station.{Station}
 use Rattle.station.specs.declared.station.Answer.{Answer}
 use Rattle.parts.proofs.Laws.Tests.{each-none}
 use Rattle.plain_rules.proofs.Laws.Queue.{queue-good}
-use Rattle.station_theorems.proofs.Laws.Small.{Small, SmallFrame, SmallDispatch, SmallHandled, SmallBest, SmallList, pick-keeps, pick-keeps-if, split-small, push-small, best-small, add-small, next-small, start-small, reply-small, own-small, send-small}
+use Rattle.station_theorems.specs.Small.{Small, SmallFrame, SmallDispatch, SmallHandled, SmallList}
+use Rattle.station_theorems.proofs.Laws.Small.{SmallBest, pick-keeps, pick-keeps-if, split-small, push-small, best-small, add-small, next-small, start-small, reply-small, own-small, send-small}
 
 module _ (n limit : ℕ) where
   -- ---- one field anew

@@ -2,16 +2,11 @@
 -- heard token's failing station, or the addressee at the last timer; each of these is struck. Assumes nothing.
 use mathlib.Core.Path.{_≡_, sym, ap, _∙_}
 use mathlib.Core.Bool.{true}
-use Prim.Native.Nat.{ℕ, _≤_}
-use Rattle.parts.specs.Moves.{moveOf, runs}
-use Rattle.parts.specs.Live.{liveAt, without}
+use Prim.Native.Nat.{ℕ}
+use Rattle.parts.specs.Live.{liveAt}
 use Rattle.parts.specs.Frames.{failingOf}
-use Rattle.station.specs.Stations.{stateOf, awaitedOf}
-use Rattle.plain_rules.specs.Heard.{newly}
-use Rattle.station.specs.Heard.{heard, checks, frameRule}
+use Rattle.station.specs.Heard.{heard, frameRule}
 use Rattle.station.specs.Timer.{timerRule}
-use Rattle.parts.specs.declared.moves.State.the-variants.{Waiting}
-use Rattle.parts.specs.declared.moves.Event.the-variants.{Heard}
 use Rattle.parts.specs.declared.frame.Whom.{Whom}
 use Rattle.parts.specs.declared.frame.Whom.the-variants.{Nobody, Member}
 use Rattle.parts.specs.declared.frame.Frame.{Frame}
@@ -20,15 +15,9 @@ use Rattle.station.specs.declared.station.Station.{Station}
 use Rattle.station.specs.declared.station.Answer.{Answer}
 use Rattle.station.proofs.Laws.Heard.{frame-runs}
 use Rattle.station.proofs.Laws.Timer.{timer-last}
+use Rattle.station_theorems.specs.Striking.{Strikes, FailingHeard, LastTimer, IsStruck}
 use Rattle.station_theorems.proofs.Laws.Telling.{left, nobody-no-member, same-member, told-struck, nobody-left}
 use Rattle.station_theorems.proofs.Laws.Told.{AnswerFrom, tells-hearing, tells-answered, tells-again, tells-last, either-frame, either-timer}
-
--- from a station to an answer, where only stations that `may` are told
-pub record Strikes (s : Station) (a : Answer) (may : ℕ → Type 0) : Type 0 where
-  pub told-leaves : (p : ℕ) → a .struck ≡ Member p → a .station .live ≡ without (s .live) p
-  pub told-was-live : (p : ℕ) → a .struck ≡ Member p → liveAt (s .live) p ≡ true
-  pub told-only : (p : ℕ) → a .struck ≡ Member p → may p
-  pub nobody-leaves : a .struck ≡ Nobody → a .station .live ≡ s .live
 
 strikes : (s : Station) (a : Answer) (may : ℕ → Type 0) (w : Whom) → AnswerFrom s w a → ((p : ℕ) → w ≡ Member p → may p) → Strikes s a may
 strikes s a may w t m =
@@ -45,11 +34,6 @@ strikes-nobody s a may t = strikes s a may Nobody t (λ p e. absurd (nobody-no-m
 
 -- ---- a heard frame: only a token's failing station is told, where frames are heard and the checks pass
 
-pub record FailingHeard (s : Station) (f : Frame) (from to p : ℕ) : Type 0 where
-  pub hears : moveOf (stateOf s) Heard ≡ runs
-  pub passed : checks s from to ≡ 0
-  pub failing-is : failingOf f ≡ Member p
-
 pub frame-strikes : (s : Station) (f : Frame) (from to : ℕ) → Strikes s (frameRule s f from to) (FailingHeard s f from to)
 frame-strikes s f from to =
     let may : ℕ → Type 0 = FailingHeard s f from to in
@@ -57,12 +41,6 @@ frame-strikes s f from to =
     (λ r c. strikes s (heard s f from to) may (failingOf f) (tells-hearing s f from to) (λ p e. record { hears = r; passed = c; failing-is = e }))
 
 -- ---- the timer: only the addressee of the awaited frame is told, where the retries are not below the limit
-
-pub record LastTimer (s : Station) (p : ℕ) : Type 0 where
-  pub waits : stateOf s ≡ Waiting
-  pub frame : Frame
-  pub awaits : awaitedOf s ≡ Sent frame p
-  pub last : s .limit ≤ s .turn .retries
 
 same-place : (f : Frame) (p q : ℕ) → Member p ≡ Member q → Sent f p ≡ Sent f q
 same-place f p q e = ap (Sent f) (same-member p q e)
@@ -75,10 +53,6 @@ timer-strikes s =
     (λ p same. record { waits = w; frame = f; awaits = e ∙ same-place f to p same; last = l }))
 
 -- ---- and each of these is struck, and told if it was live
-
-pub record IsStruck (s : Station) (p : ℕ) (a : Answer) : Type 0 where
-  pub live-without : a .station .live ≡ without (s .live) p
-  pub told-if-live : a .struck ≡ newly (s .live) p
 
 is-struck : (s : Station) (p : ℕ) (a b : Answer) → a ≡ b → AnswerFrom s (Member p) b → IsStruck s p a
 is-struck s p a b e t = rw e (record { live-without = t .live-left; told-if-live = t .told-is })

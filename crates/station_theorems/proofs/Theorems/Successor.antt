@@ -9,25 +9,7 @@ use borrow.Author.Tests.{ltb-true, ltb-false, eqb-true, eqb-false}
 use Rattle.parts.specs.declared.live.Live.{Live}
 use Rattle.parts.specs.Live.{liveAt, after, seek, successor}
 use Rattle.parts.proofs.Laws.Live.{after-inside, after-last, seek-none, seek-here, seek-further}
-
--- the position k steps after own on a ring of n
-abbrev pub onward : ℕ → ℕ → ℕ → ℕ
-onward n own k = (own + k) % n
-
--- s is live and another, and nobody live stands between own and s
-pub record Next (l : Live) (n own s : ℕ) : Type 0 where
-  pub member : s < n
-  pub another : s ≡ own → ⊥
-  pub live : liveAt l s ≡ true
-  pub steps : ℕ
-  pub reached : s ≡ onward n own steps
-  pub once-round : steps < n
-  pub nobody-between : (k : ℕ) → 0 < k → k < steps → liveAt l (onward n own k) ≡ false
-
--- s is the next live one, or own where no other member is live
-pub record Successor (l : Live) (n own s : ℕ) : Type 0 where
-  pub next : (s ≡ own → ⊥) → Next l n own s
-  pub no-other : s ≡ own → (p : ℕ) → p < n → (p ≡ own → ⊥) → liveAt l p ≡ false
+use Rattle.station_theorems.specs.Successor.{onward, Successor}
 
 -- ---- steps on the ring
 

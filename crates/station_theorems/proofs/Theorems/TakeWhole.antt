@@ -8,8 +8,9 @@ use Rattle.parts.specs.declared.list.Message.{Message}
 use Rattle.parts.specs.declared.list.Which.the-variants.{HasPlace}
 use Rattle.station.specs.declared.station.Station.{Station}
 use Rattle.parts.proofs.Laws.Messages.{only-length}
+use Rattle.station_theorems.specs.Shaped.{WholeStation}
 use Rattle.station_theorems.proofs.Laws.Kept.{list-only, list-length, pack-length}
-use Rattle.station_theorems.proofs.Laws.Sound.{Sound, WholeStation, whole-sound, whole-station, moved-sound, unless-sound}
+use Rattle.station_theorems.proofs.Laws.Sound.{Sound, whole-sound, whole-station, moved-sound, unless-sound}
 
 taking-sound : (s : Station) (m : Message) → Sound s → Sound (taking s m .station)
 unfolding taking splitBy
@@ -32,7 +33,7 @@ taking-sound s m k =
       awaited = k .awaited;
     }
 
-pub take-sound : (s : Station) (channel room : ℕ) → Sound s → Sound (takeRule s channel room .station)
+take-sound : (s : Station) (channel room : ℕ) → Sound s → Sound (takeRule s channel room .station)
 unfolding takeRule
 take-sound s channel room k = moved-sound s k _ _ (λ r. unless-sound s k _ _ (λ z. taking-sound s _ k))
 

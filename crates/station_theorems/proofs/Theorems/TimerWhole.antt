@@ -21,12 +21,13 @@ use Rattle.parts.specs.declared.frame.Frame.{Frame}
 use Rattle.parts.specs.declared.frame.Dispatch.{Dispatch}
 use Rattle.parts.specs.declared.frame.Dispatch.the-variants.{Nothing, Sent}
 use Rattle.station.specs.declared.station.Station.{Station}
+use Rattle.station_theorems.specs.Shaped.{WholeStation}
 use Rattle.station_theorems.proofs.Laws.States.{waits}
 use Rattle.parts.proofs.Laws.Tests.{held}
 use Rattle.station_theorems.proofs.Laws.Based.{ringed, Based, sound-based, quiet-alone, sends-off}
 use Rattle.station_theorems.proofs.Laws.Sending.{resend-proper}
 use Rattle.station_theorems.proofs.Laws.Struck.{struck-based, left-based, still-based, counted-based, flight-cases}
-use Rattle.station_theorems.proofs.Laws.Sound.{Sound, WholeStation, whole-sound, whole-station, moved-sound}
+use Rattle.station_theorems.proofs.Laws.Sound.{Sound, whole-sound, whole-station, moved-sound}
 
 -- ---- the same frame again
 
@@ -89,7 +90,7 @@ unfolding onTimer
 timer-on s m k Nothing e = k
 timer-on s m k (Sent f to) e = silence-sound s m k to f e
 
-pub timer-sound : (s : Station) → Sound s → Sound (timerRule s .station)
+timer-sound : (s : Station) → Sound s → Sound (timerRule s .station)
 unfolding timerRule
 timer-sound s k = moved-sound s k _ _ (λ r. timer-on s (ap (λ (st : State). moveOf st Heard) (waits (stateOf s) r)) k (awaitedOf s) (k .awaited))
 

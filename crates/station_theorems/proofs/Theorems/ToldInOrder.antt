@@ -1,21 +1,19 @@
 -- What a striking tells as given up, and in which order: the waiting messages to the struck station in order of acceptance, then the one in
 -- flight; the others remain in order of acceptance. For a station whose send list fits. Assumes nothing.
 use mathlib.Core.Path.{_≡_, refl, ap, subst, _∙_}
-use mathlib.Core.Bool.{Bool, true, false, not, _&&_, _||_, and-false}
+use mathlib.Core.Bool.{Bool, true, false, not, _&&_, and-false}
 use mathlib.Core.List.{List, [], _++_, append-nil}
 use Prim.Native.Nat.{ℕ, _≤_}
 use lib.ListN.{length}
 use borrow.Author.Tests.{eq-eqb, ne-eqb}
 use Rattle.parts.specs.Moves.{moveOf, runs}
-use Rattle.parts.specs.Messages.{all, flies, fits, only}
+use Rattle.parts.specs.Messages.{all, only}
 use Rattle.parts.specs.Frames.{numberOf, flight, failingOf}
-use Rattle.station.specs.Stations.{stateOf, awaitedOf, alone}
-use Rattle.station.specs.Strike.{strike}
+use Rattle.station.specs.Stations.{stateOf, awaitedOf}
 use Rattle.station.specs.Heard.{acknowledged, checks, frameRule}
 use Rattle.station.specs.Timer.{timerRule}
 use Rattle.parts.specs.declared.moves.Event.the-variants.{Heard}
 use Rattle.parts.specs.declared.list.Message.{Message}
-use Rattle.parts.specs.declared.list.Which.the-variants.{WaitingFor}
 use Rattle.parts.specs.declared.frame.Whom.{Whom}
 use Rattle.parts.specs.declared.frame.Whom.the-variants.{Nobody, Member}
 use Rattle.parts.specs.declared.frame.Frame.{Frame}
@@ -24,33 +22,19 @@ use Rattle.station.specs.declared.station.Answer.{Answer}
 use Rattle.parts.proofs.Laws.Choose.{pick-true, pick-false}
 use Rattle.station.proofs.Laws.Heard.{frame-runs}
 use Rattle.station.proofs.Laws.Timer.{timer-last}
+use Rattle.station_theorems.specs.ToldInOrder.{inFlight, TimerTells, FrameTells}
+use Rattle.station_theorems.specs.Leaves.{waitsTo, flying, AnswerLeaves, anotherThan, stops}
+use Rattle.station_theorems.specs.Striking.{FailingHeard, LastTimer}
+use Rattle.station_theorems.specs.Leaving.{SendsFit}
 use Rattle.station_theorems.proofs.Laws.Only.{only-nothing}
 use Rattle.station_theorems.proofs.Laws.Leaving.{one-flies}
-use Rattle.station_theorems.proofs.Laws.Leaves.{waitsTo, flying, AnswerLeaves, anotherThan, stops}
 use Rattle.station_theorems.proofs.Laws.Landed.{heard-leaves, last-leaves}
-use Rattle.station_theorems.proofs.Theorems.Striking.{FailingHeard, LastTimer}
-use Rattle.station_theorems.proofs.Theorems.Leaving.{SendsFit, few}
-
--- the waiting messages to p, in order of acceptance
-abbrev pub waitingFor : Station → ℕ → List Message
-waitingFor s p = only (fits (WaitingFor (flight (awaitedOf s)) p)) (all (s .sends))
-
--- the message in flight
-abbrev pub inFlight : Station → List Message
-inFlight s = only (flies (flight (awaitedOf s))) (all (s .sends))
+use Rattle.station_theorems.proofs.Theorems.Leaving.{few}
 
 pub at-most-one : (s : Station) → SendsFit s → length (inFlight s) ≤ 1
 at-most-one s fit = one-flies (flight (awaitedOf s)) (all (s .sends)) (fit .places)
 
--- those that neither wait for p nor fly, in order of acceptance
-abbrev pub theOthers : Station → ℕ → List Message
-theOthers s p = only (λ (m : Message). not (fits (WaitingFor (flight (awaitedOf s)) p) m || flies (flight (awaitedOf s)) m)) (all (s .sends))
-
 -- ---- the last timer, to p
-
-pub record TimerTells (s : Station) (p : ℕ) (a : Answer) : Type 0 where
-  pub given-up : all (a .gone) ≡ waitingFor s p ++ inFlight s
-  pub remaining : all (a .station .sends) ≡ theOthers s p
 
 pub timer-tells : (s : Station) → SendsFit s → (p : ℕ) → LastTimer s p → TimerTells s p (timerRule s)
 timer-tells s fit p h =
@@ -62,14 +46,6 @@ timer-tells s fit p h =
 pub frame-leaves : (s : Station) → SendsFit s → (f : Frame) (from to : ℕ) → moveOf (stateOf s) Heard ≡ runs → checks s from to ≡ 0
     → AnswerLeaves s (anotherThan (s .own) (failingOf f)) (stops s (failingOf f) && not (acknowledged s from (numberOf f))) (acknowledged s from (numberOf f)) (frameRule s f from to)
 frame-leaves s fit f from to r c = rw (frame-runs s f from to r c) (heard-leaves s (fit .places) (few s fit) f from to)
-
--- told where the failing station is p, case by case; a message in flight that is acknowledged first is not told
-pub record FrameTells (s : Station) (acked : Bool) (p : ℕ) (a : Answer) : Type 0 where
-  pub others-left : (p ≡ s .own → ⊥) → alone (strike s p) ≡ false → all (a .gone) ≡ waitingFor s p
-  pub nobody-left : (p ≡ s .own → ⊥) → alone (strike s p) ≡ true → acked ≡ false → all (a .gone) ≡ waitingFor s p ++ inFlight s
-  pub nobody-left-acknowledged : (p ≡ s .own → ⊥) → acked ≡ true → all (a .gone) ≡ waitingFor s p
-  pub itself : p ≡ s .own → acked ≡ false → all (a .gone) ≡ inFlight s
-  pub itself-acknowledged : p ≡ s .own → acked ≡ true → all (a .gone) ≡ []
 
 none-waits : (s : Station) → only (waitsTo s Nobody) (all (s .sends)) ≡ []
 none-waits s = only-nothing (waitsTo s Nobody) (λ m. refl) (all (s .sends))

@@ -2,7 +2,6 @@
 use mathlib.Core.Path.{_≡_, refl, sym, ap, _∙_}
 use mathlib.Core.Bool.{Bool, true, false, false≢true, _||_}
 use mathlib.Core.List.{List, List·Memᴰ}
-use Prim.Native.Nat.{ℕ, _≤_}
 use borrow.Author.Tests.{leb-true, le-leb, eqb-true, eq-eqb}
 use Rattle.parts.specs.Choose.{pick, every}
 use Rattle.parts.specs.Moves.{isExcluded}
@@ -15,37 +14,21 @@ use Rattle.parts.specs.declared.moves.State.{State}
 use Rattle.parts.specs.declared.moves.State.the-variants.{Excluded}
 use Rattle.parts.specs.declared.live.Live.{Live}
 use Rattle.parts.specs.declared.list.Message.{Message}
-use Rattle.parts.specs.declared.frame.InformationFrame.{InformationFrame}
 use Rattle.parts.specs.declared.frame.Frame.the-variants.{Token, Transmit, Information}
 use Rattle.parts.specs.declared.frame.Dispatch.{Dispatch}
 use Rattle.parts.specs.declared.frame.Dispatch.the-variants.{Nothing, Sent}
 use Rattle.station.specs.declared.station.Station.{Station}
 use Rattle.parts.proofs.Laws.Choose.{pick-true, pick-false}
+use Rattle.station_theorems.specs.Whole.{InFlight, Whole}
+use Rattle.station_theorems.specs.Shaped.{Shaped}
 use Rattle.station_theorems.proofs.Laws.States.{excluded-is}
 use Rattle.station_theorems.proofs.Laws.Kept.{list-apart}
 use Rattle.station_theorems.proofs.Laws.Members.{each-member, each-of}
-use Rattle.station_theorems.proofs.Laws.Based.{Ring, ringed, ring-good}
-use Rattle.station_theorems.proofs.Laws.Sound.{Shaped, sound, sound-whole}
-use Rattle.station_theorems.proofs.Theorems.LiveSet.{LiveSet, live-set, seats-live, company-good}
-use Rattle.station_theorems.proofs.Theorems.GoodList.{GoodList, good-list, list-good}
-use Rattle.station_theorems.proofs.Theorems.Awaited.{Awaited, awaited-is, is-awaited}
-
--- the awaited frame is the information frame of the message's place
-pub record InFlight (d : Dispatch) (m : Message) : Type 0 where
-  pub frame : InformationFrame
-  pub to : ℕ
-  pub its-place : frame .place ≡ m .place
-  pub awaited : d ≡ Sent (Information frame) to
-
-pub record Whole (s : Station) : Type 0 where
-  pub good-ring : Ring (s .n) (s .limit) (s .own)
-  pub live-set : LiveSet (stateOf s) (s .n) (s .own) (s .live)
-  pub sends : GoodList (s .n) (s .own) (s .sends)
-  pub receives : GoodList (s .n) (s .own) (s .receives)
-  pub waiting-to-live : (stateOf s ≡ Excluded → ⊥) → (m : Message) → List·Memᴰ m (all (s .sends)) → (InFlight (awaitedOf s) m → ⊥)
-      → liveAt (s .live) (m .other) ≡ true
-  pub retries-fit : s .turn .retries ≤ s .limit
-  pub awaited : Awaited (stateOf s) (s .n) (s .own) (s .sends) (awaitedOf s)
+use Rattle.station_theorems.proofs.Laws.Based.{ringed, ring-good}
+use Rattle.station_theorems.proofs.Laws.Sound.{sound, sound-whole}
+use Rattle.station_theorems.proofs.Theorems.LiveSet.{live-set, seats-live, company-good}
+use Rattle.station_theorems.proofs.Theorems.GoodList.{good-list, list-good}
+use Rattle.station_theorems.proofs.Theorems.Awaited.{awaited-is, is-awaited}
 
 -- ---- in flight, or waiting
 

@@ -21,11 +21,12 @@ use Rattle.parts.specs.declared.list.Message.{Message}
 use Rattle.parts.specs.declared.request.Request.{Request}
 use Rattle.station.specs.declared.station.Station.{Station}
 use Rattle.plain_rules.proofs.Laws.Queue.{queue-good}
+use Rattle.station_theorems.specs.Shaped.{WholeStation}
 use Rattle.station_theorems.proofs.Laws.Based.{in-flight}
 use Rattle.station_theorems.proofs.Laws.Carried.{best-somewhere}
 use Rattle.station_theorems.proofs.Laws.Kept.{push-all}
 use Rattle.station_theorems.proofs.Laws.Places.{free-place}
-use Rattle.station_theorems.proofs.Laws.Sound.{WholeStation, whole-sound}
+use Rattle.station_theorems.proofs.Laws.Sound.{whole-sound}
 use Rattle.waiting.proofs.Laws.Staying.{WaitsAt}
 
 module _ (s : Station) (whole : WholeStation s) (q : Request) where

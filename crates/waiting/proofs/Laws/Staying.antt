@@ -17,10 +17,12 @@ use Rattle.parts.specs.declared.frame.Frame.{Frame}
 use Rattle.parts.specs.declared.frame.Dispatch.{Dispatch}
 use Rattle.station.specs.declared.station.Station.{Station}
 use Rattle.station.specs.declared.station.Answer.{Answer}
+use Rattle.station_theorems.specs.Leaves.{flying}
+use Rattle.station_theorems.specs.Shaped.{WholeStation}
+use Rattle.station_theorems.specs.Leaving.{Acknowledged}
 use Rattle.station_theorems.proofs.Laws.Based.{idle-flight}
-use Rattle.station_theorems.proofs.Laws.Leaves.{flying}
-use Rattle.station_theorems.proofs.Laws.Sound.{WholeStation, whole-sound}
-use Rattle.station_theorems.proofs.Theorems.Leaving.{Acknowledged, whole-fits, frame-leaves-only}
+use Rattle.station_theorems.proofs.Laws.Sound.{whole-sound}
+use Rattle.station_theorems.proofs.Theorems.Leaving.{whole-fits, frame-leaves-only}
 use Rattle.bench.specs.Ring.{stationAt}
 use Rattle.bench.specs.Delivery.{deliver, step}
 use Rattle.bench.specs.declared.ring.Bench.{Bench}

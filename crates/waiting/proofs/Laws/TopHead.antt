@@ -19,12 +19,14 @@ use Rattle.parts.specs.declared.list.Message.{Message}
 use Rattle.parts.specs.declared.list.Which.{Which}
 use Rattle.parts.specs.declared.list.Which.the-variants.{AnyWaiting, HasPlace}
 use Rattle.station.specs.declared.station.Station.{Station}
+use Rattle.station_theorems.specs.Shaped.{WholeStation}
+use Rattle.station_theorems.specs.Head.{First}
 use Rattle.station_theorems.proofs.Laws.Carried.{best-found}
 use Rattle.station_theorems.proofs.Laws.Kept.{list-messages, list-apart}
 use Rattle.station_theorems.proofs.Laws.Members.{each-member, standing, stood}
-use Rattle.station_theorems.proofs.Laws.Sound.{WholeStation, whole-sound}
+use Rattle.station_theorems.proofs.Laws.Sound.{whole-sound}
 use Rattle.station_theorems.proofs.Theorems.GoodList.{good-message}
-use Rattle.station_theorems.proofs.Theorems.Head.{First, head-is-first}
+use Rattle.station_theorems.proofs.Theorems.Head.{head-is-first}
 use Rattle.bench.specs.Ring.{stationAt}
 use Rattle.bench.specs.declared.ring.Bench.{Bench}
 use Rattle.bench_theorems.specs.Quiet.{Quiet}

@@ -7,7 +7,7 @@ use Rattle.bench.specs.Rows.{rowsOn}
 use Rattle.bench.specs.Runs.{Event, stepped, queued, afterEvent, composed, final, frames}
 use Rattle.bench.specs.declared.ring.Bench.{Bench}
 use Rattle.bench.specs.declared.rows.Row.{Row}
-use Rattle.waiting.specs.Waiting.{Spot, own, before, goes}
+use Rattle.waiting.specs.Waiting.{Spot, own, before, goes, GoesAt}
 use Rattle.waiting.proofs.Laws.Own.{before-own, before-another, goes-own, goes-another}
 
 module _ (x : Spot) where
@@ -24,21 +24,13 @@ module _ (x : Spot) where
           before-another x b es e ∙ ap (λ (rows : List Row). rowsOn (step b .wire) ++ rows) (rest (sym (goes-another x b es e) ∙ g))
   before-all (queued from q ∷ es) b g = before-all es (afterEvent b (queued from q)) g
 
-  -- where it goes: the step that composes its own frame, and none before it has
-  pub record GoesAt (b : Bench) (after : List Event) : Type 0 where
-    pub first : List Event
-    pub rest : List Event
-    pub splits : after ≡ first ++ (stepped ∷ rest)
-    pub not-earlier : goes x b first ≡ false
-    pub its-own : own x (step (final b first) .wire) ≡ true
-    pub counted : before x b after ≡ frames b first
-
-  pub goes-at : (es : List Event) (b : Bench) → goes x b es ≡ true → GoesAt b es
+  -- where it goes
+  pub goes-at : (es : List Event) (b : Bench) → goes x b es ≡ true → GoesAt x b es
   unfolding before goes frames composed afterEvent final
   goes-at [] b g = absurd (false≢true g)
   goes-at (stepped ∷ es) b g = go (own x (step b .wire)) refl (goes-at es (step b))
     where
-      go : (t : Bool) → own x (step b .wire) ≡ t → (goes x (step b) es ≡ true → GoesAt (step b) es) → GoesAt b (stepped ∷ es)
+      go : (t : Bool) → own x (step b .wire) ≡ t → (goes x (step b) es ≡ true → GoesAt x (step b) es) → GoesAt x b (stepped ∷ es)
       go true e next = record { first = []; rest = es; splits = refl; not-earlier = refl; its-own = e; counted = before-own x b es e }
       go false e next =
           let w = next (sym (goes-another x b es e) ∙ g) in

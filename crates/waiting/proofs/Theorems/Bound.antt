@@ -2,40 +2,24 @@
 -- it goes waits for at most 2N+1 short frames and one foreign information frame; it goes no later than as the (2N+3)th frame composed after
 -- its acceptance, and what goes is the message. Whatever ran before, and whatever queue calls fall between the steps. Assumes nothing.
 use mathlib.Core.Path.{_≡_, refl, subst, _∙_}
-use mathlib.Core.Bool.{true, false}
-use mathlib.Core.List.{List, _∷_, _++_}
-use Prim.Native.Nat.{ℕ, _+_, _*_, _<_, _≤_}
+use mathlib.Core.List.{List, _∷_}
+use Prim.Native.Nat.{ℕ, _<_, _≤_}
 use native.Mathlib.Omega.{arith}
-use Rattle.plain_rules.specs.Round.{informationOf}
 use Rattle.station.specs.Queue.{newMessage}
 use Rattle.parts.specs.declared.list.Message.{Message}
 use Rattle.parts.specs.declared.request.Request.{Request}
 use Rattle.bench.specs.Ring.{stationAt}
-use Rattle.bench.specs.Delivery.{step}
 use Rattle.bench.specs.Calls.{queue}
 use Rattle.bench.specs.Runs.{Event, stepped, final}
 use Rattle.bench.specs.declared.ring.Bench.{Bench}
-use Rattle.bench_theorems.specs.Counting.{stepsIn}
 use Rattle.bench_theorems.specs.Quiet.{Quiet}
 use Rattle.bench_theorems.proofs.Laws.Queueing.{quiet-queue}
 use Rattle.bench_theorems.proofs.Theorems.ReachedQuiet.{reached-quiet, reached-n}
-use Rattle.waiting.specs.Waiting.{Spot, spotFor, own, goes, Waits, StaysOnTop, atQueue, WithinBound}
+use Rattle.waiting.specs.Waiting.{Spot, spotFor, StaysOnTop, atQueue, Bound}
 use Rattle.waiting.proofs.Laws.Queueing.{accepted-waits, queue-n}
 use Rattle.waiting.proofs.Laws.Stepping.{Holds}
 use Rattle.waiting.proofs.Laws.Running.{runs-so, top-now}
 use Rattle.waiting.proofs.Laws.Keeping.{ranked, until-it-goes, own-is-its}
-
--- the message m was accepted at the spot x, which left the bench b; `after` is what comes then
-pub record Bound (n : ℕ) (x : Spot) (m : Message) (b : Bench) (after : List Event) : Type 0 where
-  -- short frames, information frames and octets before its own, and which frame its own is
-  pub within : WithinBound n x b after
-  -- its own is composed, once so many frames are
-  pub it-goes : 2 * n + 3 ≤ stepsIn after → goes x b after ≡ true
-  -- in every state before that the message is in the send list of its station, and waits
-  pub waits-until : (es rest : List Event) → after ≡ es ++ rest → goes x b es ≡ false → Waits (final b es) (x .station) m
-  -- the frame that is its own is the message's information frame, from its station to its destination
-  pub own-frame : (es rest : List Event) → after ≡ es ++ (stepped ∷ rest) → goes x b es ≡ false → own x (step (final b es) .wire) ≡ true
-      → (number : ℕ) × (step (final b es) .wire ≡ record { from = x .station; sent = informationOf number m })
 
 module _ (n : ℕ) (x : Spot) (m : Message) (b : Bench) (h : Holds n x m b) (after : List Event) (t : StaysOnTop x (m .priority) b after) where
   held-bound : Bound n x m b after

@@ -2,27 +2,17 @@
 -- of a higher priority at station 0, whose own token is on the wire already. It stays on top, and goes as frame 2N+3, after 2N+1 short
 -- frames and the foreign information frame, which is as long as one can be. Assumes nothing.
 use mathlib.Core.Path.{_≡_, sym, subst}
-use mathlib.Core.List.{List, [], _∷_}
-use Prim.Native.Nat.{ℕ, _+_, _*_, _-_, _≤_}
+use Prim.Native.Nat.{ℕ, _+_, _*_, _≤_}
 use native.Mathlib.Omega.{arith}
 use Rattle.bench.specs.Calls.{queue}
-use Rattle.bench.specs.Runs.{Event, queued, afterEvent, final, stepping}
+use Rattle.bench.specs.Runs.{afterEvent, final, stepping}
 use Rattle.bench.specs.declared.ring.Bench.{Bench}
-use Rattle.waiting.specs.Waiting.{Spot, spotFor, StaysOnTop, atQueue, fewest, itsRequest, foreignRequest, ReachesBound}
+use Rattle.waiting.specs.Waiting.{Spot, spotFor, atQueue, fewest, itsRequest, ReachesBound, Tight, foreignQueued}
 use Rattle.waiting.proofs.Laws.RunCounts.{Counts}
 use Rattle.waiting.proofs.Laws.RunAhead.{Ahead}
 use Rattle.waiting.proofs.Laws.TightLoad.{spot}
 use Rattle.waiting.proofs.Laws.TightRun.{whole-run}
 use Rattle.waiting.proofs.Laws.TightStart.{ready, its-place, its-accepted, begins}
-
--- a message from station 0 to 1 with priority 9 and no octets is accepted at the bench b, stays on top, and reaches the bound
-pub record Tight (n : ℕ) (b : Bench) : Type 0 where
-  pub accepted : queue b 0 itsRequest .number ≡ 0
-  pub stays : StaysOnTop (spotFor b 0) 9 (queue b 0 itsRequest .bench) (stepping (2 * n + 3))
-  pub reaches : ReachesBound n (spotFor b 0) (queue b 0 itsRequest .bench) (stepping (2 * n + 3))
-
-abbrev pub foreignQueued : ℕ → List Event
-foreignQueued n = queued (n - 1) foreignRequest ∷ []
 
 reached : (n : ℕ) (x : Spot) (b : Bench) → Counts x 9 b (stepping (2 * n + 3)) (2 * n + 1) 1 → ReachesBound n x b (stepping (2 * n + 3))
 reached n x b c =

@@ -1,33 +1,28 @@
--- `round::look_after` meets its contract: each part is its callee's.
+-- `round::look_after` meets its contract: in each arm who is struck is that variant.
+use mathlib.Core.Path.{sym, ap, _∙_}
 use borrow.Author.Needs.{needs}
 use Rattle.station.proofs.rules.round.look_after.Statement.{statement}
 use Rattle.station.proofs.rules.round.look_after.Tie as tie
 
-live-without-requires : tie.Need-live-without-requires
-live-without-requires c κs = search needs
+enum-told : tie.Need-enum-told
+enum-told c = search needs
 
-next-live-requires : tie.Need-next-live-requires
-next-live-requires c κs = search needs
+look-requires : tie.Need-look-requires
+look-requires c κs = search needs
 
-flight-of-requires : tie.Need-flight-of-requires
-flight-of-requires c κs = search needs
+enum-known-w : tie.Need-enum-known-w
+enum-known-w c = search needs
 
-competing-in-requires : tie.Need-competing-in-requires
-competing-in-requires c κs = search needs
-
-choose-requires : tie.Need-choose-requires
-choose-requires c κs = search needs
+look-without-requires : tie.Need-look-without-requires
+look-without-requires c κs = search needs
 
 returns : tie.Need-returns
-returns c = rw (c .choose .ensures, c .before .competing-in .ensures, c .before .before .flight-of .ensures, c .before .before .before .before .next-live .ensures, c .before .before .before .before .before .live-without .ensures)
+returns c = c .look .ensures ∙ rw (c .before .enum-told .given .1)
+
+returns-2 : tie.Need-returns-2
+returns-2 c = c .look-without .ensures ∙ rw (c .before .before .w .given .1)
 
 pub look-after-spec : {M : Type 1} → statement M
 look-after-spec =
     tie.close
-    (tie.spec
-    live-without-requires
-    next-live-requires
-    flight-of-requires
-    competing-in-requires
-    choose-requires
-    returns)
+    (tie.spec enum-told look-requires enum-known-w look-without-requires returns returns-2)

@@ -7,8 +7,8 @@ use borrow.Author.Needs.{needs}
 use Rattle.station.proofs.rules.start.starting_of.Statement.{statement}
 use Rattle.station.proofs.rules.start.starting_of.Tie as tie
 
-look-after-requires : tie.Need-look-after-requires
-look-after-requires c κs = search needs
+look-requires : tie.Need-look-requires
+look-requires c κs = search needs
 
 round-from-requires : tie.Need-round-from-requires
 round-from-requires c κs = search needs
@@ -21,7 +21,7 @@ turn-to-requires c κs = search needs
 
 returns : tie.Need-returns
 unfolding starting
-returns c = c .turn-to .ensures ∙ rw (c .before .waiting .ensures, c .before .before .round-from .ensures, c .before .before .before .look-after .ensures) (sym (pick-true _ _ (eq-eqb _ _ (c .before .before .before .before .if1 .taken))))
+returns c = c .turn-to .ensures ∙ rw (c .before .waiting .ensures, c .before .before .round-from .ensures, c .before .before .before .look .ensures) (sym (pick-true _ _ (eq-eqb _ _ (c .before .before .before .before .if1 .taken))))
 
 resting-requires : tie.Need-resting-requires
 resting-requires c κs = search needs
@@ -37,7 +37,7 @@ pub starting-of-spec : {M : Type 1} → statement M
 starting-of-spec =
     tie.close
     (tie.spec
-    look-after-requires
+    look-requires
     round-from-requires
     waiting-requires
     turn-to-requires

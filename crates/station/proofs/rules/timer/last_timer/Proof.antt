@@ -8,8 +8,8 @@ use borrow.Author.Needs.{needs}
 use Rattle.station.proofs.rules.timer.last_timer.Statement.{statement}
 use Rattle.station.proofs.rules.timer.last_timer.Tie as tie
 
-look-after-requires : tie.Need-look-after-requires
-look-after-requires c κs = search needs
+look-without-requires : tie.Need-look-without-requires
+look-without-requires c κs = search needs
 
 resting-requires : tie.Need-resting-requires
 resting-requires c κs = search needs
@@ -19,7 +19,7 @@ strike-out-requires c κs = search needs
 
 returns : tie.Need-returns
 unfolding lastTimer liveWithout
-returns c = c .strike-out .ensures ∙ rw (c .before .resting .ensures) (sym (pick-true _ _ (eq-eqb _ _ (ap (λ (v : Sight). v .next) (sym (c .before .before .before .before .before .look-after .ensures)) ∙ c .before .before .if1 .taken))))
+returns c = c .strike-out .ensures ∙ rw (c .before .resting .ensures) (sym (pick-true _ _ (eq-eqb _ _ (ap (λ (v : Sight). v .next) (sym (c .before .before .before .before .before .look-without .ensures)) ∙ c .before .before .if1 .taken))))
 
 send-instead-requires : tie.Need-send-instead-requires
 send-instead-requires c κs = search needs
@@ -29,13 +29,13 @@ go-on-requires c κs = search needs
 
 returns-2 : tie.Need-returns-2
 unfolding lastTimer liveWithout
-returns-2 c = c .go-on .ensures ∙ rw (c .before .send-instead .ensures, c .before .before .before .before .before .look-after .ensures) (sym (pick-false _ _ (ne-eqb _ _ (λ e. c .before .before .if1 .left (ap (λ (v : Sight). v .next) (c .before .before .before .before .before .look-after .ensures) ∙ e)))))
+returns-2 c = c .go-on .ensures ∙ rw (c .before .send-instead .ensures, c .before .before .before .before .before .look-without .ensures) (sym (pick-false _ _ (ne-eqb _ _ (λ e. c .before .before .if1 .left (ap (λ (v : Sight). v .next) (c .before .before .before .before .before .look-without .ensures) ∙ e)))))
 
 pub last-timer-spec : {M : Type 1} → statement M
 last-timer-spec =
     tie.close
     (tie.spec
-    look-after-requires
+    look-without-requires
     resting-requires
     strike-out-requires
     returns

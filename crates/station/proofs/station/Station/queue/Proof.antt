@@ -33,7 +33,7 @@ accept-requires : tie.Need-accept-requires
 accept-requires c κs =
     let g = queue-good _ _ _ _ _ (sym (c .before .check-queue .ensures) ∙ c .if2 .left) in
     let b : c .before .before .before .before .before .args .self .n ≤ 255 = search needs in
-    record { to-fits = omega (arith, g .member); priority-fits = g .priority-fits; channel-fits = g .channel-fits; length-fits = g .length-fits }
+    record { to-fits = omega (arith, g .member); priority-fits = g .priority-fits; channel-fits = omega (arith, g .channel-fits); length-fits = omega (arith, g .length-fits) }
 
 returns-3 : tie.Need-returns-3
 unfolding queueRule

@@ -1,9 +1,8 @@
--- `Station::timer` meets its contract: the table of moves, then what is decided and done.
-use mathlib.Core.Path.{sym, _∙_}
-use Rattle.station.specs.Timer.{timerRule}
+-- `Station::timer` meets its contract: the table of moves, then by the constructor.
+use mathlib.Core.Path.{sym, ap, _∙_}
+use Rattle.station.specs.Timer.{onTimer, timerRule}
 use Rattle.parts.specs.declared.moves.Event.the-variants.{Timer}
 use Rattle.station.proofs.Laws.Moved.{moved-runs, moved-stops}
-use Rattle.station.proofs.Laws.Decide.{timer-decides}
 use borrow.Author.Needs.{needs}
 use Rattle.station.proofs.station.Station.timer.Statement.{statement}
 use Rattle.station.proofs.station.Station.timer.Tie as tie
@@ -15,18 +14,28 @@ number-alone-requires : tie.Need-number-alone-requires
 number-alone-requires c κs = search needs
 
 returns : tie.Need-returns
-unfolding timerRule
+unfolding timerRule onTimer
 returns c = c .number-alone .ensures ∙ sym (moved-stops _ Timer _ (c .before .before .move-of .ensures) (c .before .if1 .taken))
 
-timing-of-requires : tie.Need-timing-of-requires
-timing-of-requires c κs = search needs
+enum-told : tie.Need-enum-told
+enum-told c = search needs
 
-carry-out-requires : tie.Need-carry-out-requires
-carry-out-requires c κs = search needs
+number-alone-requires-2 : tie.Need-number-alone-requires-2
+number-alone-requires-2 c κs = search needs
+
+enum-known-awaited : tie.Need-enum-known-awaited
+enum-known-awaited c = search needs
+
+wait-on-requires : tie.Need-wait-on-requires
+wait-on-requires c κs = search needs
 
 returns-2 : tie.Need-returns-2
-unfolding timerRule
-returns-2 c = c .carry-out .ensures ∙ rw (c .before .timing-of .ensures) (sym (moved-runs _ Timer _ (c .before .before .before .move-of .ensures) (c .before .before .if1 .left) ∙ timer-decides _ _))
+unfolding timerRule onTimer
+returns-2 c = c .number-alone2 .ensures ∙ sym (moved-runs _ Timer _ (c .before .before .before .before .move-of .ensures) (c .before .before .before .if1 .left) ∙ rw (c .before .enum-told .given .1))
+
+returns-3 : tie.Need-returns-3
+unfolding timerRule onTimer
+returns-3 c = c .wait-on .ensures ∙ sym (moved-runs _ Timer _ (c .before .before .before .before .before .move-of .ensures) (c .before .before .before .before .if1 .left) ∙ rw (c .before .before .awaited .given .1))
 
 pub timer-spec : {M : Type 1} → statement M
 timer-spec =
@@ -35,6 +44,9 @@ timer-spec =
     move-of-requires
     number-alone-requires
     returns
-    timing-of-requires
-    carry-out-requires
-    returns-2)
+    enum-told
+    number-alone-requires-2
+    enum-known-awaited
+    wait-on-requires
+    returns-2
+    returns-3)

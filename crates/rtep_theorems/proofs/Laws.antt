@@ -1,0 +1,4 @@
+-- Laws that the theorems use, one idea a file.
+pub mod Values
+pub mod Files
+pub mod Members

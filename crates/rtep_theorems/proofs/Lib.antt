@@ -1,0 +1,3 @@
+-- What holds of what C calls.
+pub mod Laws
+pub mod Theorems

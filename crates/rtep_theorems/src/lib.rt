@@ -1,0 +1,1 @@
+// What holds of what C calls: theorems, no code.
