@@ -12,5 +12,6 @@ pub mod Going
 pub mod Again
 pub mod Shared
 pub mod Breaks
+pub mod Layout
 pub mod Touched
 pub mod Stepping

@@ -50,6 +50,7 @@ use Rattle.bench.specs.Delivery.{handed, delivered}
 use Rattle.bench.specs.Table.{hears, handingOf, goesOn, stepText, printed}
 use Rattle.bench.specs.declared.table.Going.{Going}
 use Rattle.bench.specs.declared.table.Handing.{Handing}
+use Rattle.bench.proofs.Laws.Layout.{offset}
 use Rattle.bench.proofs.Laws.Stepping.{handing-asks, on-less, OneDone, one-step}
 use Rattle.bench.proofs.table.Going as G
 use Rattle.bench.proofs.table.Going.Laws as G′
@@ -204,7 +205,7 @@ module _ {M : Type 1} (𝓤 : URA M) (H : Heap 𝓤) (A : Atoms 𝓤) (W : Given
         assigns ! (agg ! (and-then ! (load ! (from ! (stop !)) (look ! 7 refl)) (and-then ! (load ! (from ! (fld ! refl (stop !))) (look-in ! 19 (sub ! 1 refl (whole !)))) (no-more !)))) (from ! (stop !)) (init ! 5 refl (tt, (tt, (record { fits = room₁ .0 }, tt)))) $
         move ! (4 ∷ 3 ∷ []) $ use2 W (raw (Put 𝓤 H A mem run .pre (to-put h r))) (goes-put h r (fields .1 .1 .1 .1 .1 .0 .1) r-is) $
         -- [what `print` asks; the first token, true; the last table; true; _9; …; _0; …]
-        calls-at ! fm (Put 𝓤 H A mem run) put-known (to-put h r) (and-then ! (load ! (from ! (stop !)) (look ! 4 refl)) (and-then ! (load ! (from ! (stop !)) (look ! 16 refl)) (and-then ! (load ! (from ! (fld ! {τ = tyInt w8} {d = 28} refl (stop !))) (look-in ! 14 {τ = tyInt w8} (sub ! 5 {τ = tyInt w8} {d = 28} refl (whole !)))) (and-then ! (load ! (from ! (stop !)) (look ! 12 refl)) (no-more !))))) (λ w₂.
+        calls-at ! fm (Put 𝓤 H A mem run) put-known (to-put h r) (and-then ! (load ! (from ! (stop !)) (look ! 4 refl)) (and-then ! (load ! (from ! (stop !)) (look ! 16 refl)) (and-then ! (load ! (from ! (fld ! {τ = tyInt w8} {d = offset N.the-type 5} refl (stop !))) (look-in ! 14 {τ = tyInt w8} (sub ! 5 {τ = tyInt w8} {d = offset N.the-type 5} refl (whole !)))) (and-then ! (load ! (from ! (stop !)) (look ! 12 refl)) (no-more !))))) (λ w₂.
         use1 W (later (some (λ (p : Going). ((‵ (flft κ₁ q₁) ⊛ ‵ ftrue) ⊛ ‵ (G.the-row .own p (w₂ ∷ []))) ⊛ raw (ensured 𝓤 H A put.ended (put.clauses 𝓤 H A mem run) (κ₁, tt) (x₁, (g, (h .to, (r, tt)))) tt p)))) (id⊢ 𝓤 _) $ await ! tt $ pick ! (λ p.
         split ! $ move ! (1 ∷ []) $ use1 W (some (λ (us : List ℕ × (Unit {0} × (Unit {0} × (Unit {0} × Unit {0})))). ‵ (lasts put.ended (κ₁, tt) (x₁, (g, (h .to, (r, tt)))) us) ⊛ raw (fact 𝓤 (Printed os g (h .to) r p (us .0))))) (id⊢ 𝓤 _) $ pick ! (λ us.
         split ! $ move ! (1 ∷ []) $ heard ! (Printed os g (h .to) r p (us .0)) (λ ep. fsplit ! $ fsplit ! $ move ! (1 ∷ []) $ feqL ! (λ lu.

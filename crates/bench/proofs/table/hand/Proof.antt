@@ -60,6 +60,7 @@ use Rattle.bench.proofs.Laws.Passing.{Passed, passed-none, passed-table
 use Rattle.bench.proofs.Laws.Again.{LentAgain, lends-again, comes-back}
 use Rattle.bench.proofs.Laws.Shared.{LentShared, lends-shared, shared-back}
 use Rattle.bench.proofs.Laws.Breaks.{breaks}
+use Rattle.bench.proofs.Laws.Layout.{offset}
 use Rattle.bench.proofs.Laws.Touched.{Found, finds, turn-hand}
 use Rattle.station.proofs.station.Station as T
 use Rattle.parts.proofs.frame.Frame as Fr
@@ -281,7 +282,7 @@ module _ {M : Type 1} (𝓤 : URA M) (H : Heap 𝓤) (A : Atoms 𝓤) (W : Given
         use2 W (later (‵ (MutSlice (named 0) κ T.the-row .own (x γ cur) (sliceVal (b, o) (length cur) ∷ [])) ⊛ ‵ (flft κ q))) (shared-back T.the-row κ (ν ∷ []) q γ b o 𝓤 H A W (named 0) (named 0) cur room′) $ await ! tt $ split ! $
         rewrite ! 0 (λ (k : ℕ). ‵ (MutSlice (named 0) κ T.the-row .own (x γ cur) (sliceVal (b, o) k ∷ []))) len refl $ move ! (2 ∷ []) $ drop ! $
         -- [the slice; the token; room for _11; …]
-        assigns ! (bin ! (load ! (from ! (fld ! {τ = word} {d = 8} refl (stop !))) (look-in ! 20 {τ = word} (sub ! 1 {τ = word} {d = 8} refl (whole !)))) (load ! (from ! (stop !)) (look ! 16 refl)) tt) (from ! (stop !)) (init ! 6 refl (tt, tt)) $
+        assigns ! (bin ! (load ! (from ! (fld ! {τ = word} {d = offset Hd.the-type 1} refl (stop !))) (look-in ! 20 {τ = word} (sub ! 1 {τ = word} {d = offset Hd.the-type 1} refl (whole !)))) (load ! (from ! (stop !)) (look ! 16 refl)) tt) (from ! (stop !)) (init ! 6 refl (tt, tt)) $
         breaks ! (load ! (from ! (stop !)) (look ! 6 refl))
         -- there is no record more: the loop is left, and the reply handed back
         (λ over. exec ! C Λ En mirs.t-4 (atRet En Post) $
@@ -294,7 +295,7 @@ module _ {M : Type 1} (𝓤 : URA M) (H : Heap 𝓤) (A : Atoms 𝓤) (W : Given
         let less : r < h .m = leb-false _ _ within in
         let inside : r < length cur = omega arith in
         let next-fits : r + 1 < 2 ^ 64 = omega arith in
-        assigns ! (of-opd ! (load ! (from ! (fld ! {τ = Fr′.mir} {d = 16} refl (stop !))) (look-in ! 20 {τ = Fr′.mir} (sub ! 2 {τ = Fr′.mir} {d = 16} refl (whole !))))) (from ! (stop !)) (init ! 14 refl (EL.lawful Fr.the-type Fr′.the-laws 𝓤 H A W tt .typed (h .frame) _ frame-is .0)) $
+        assigns ! (of-opd ! (load ! (from ! (fld ! {τ = Fr′.mir} {d = offset Hd.the-type 2} refl (stop !))) (look-in ! 20 {τ = Fr′.mir} (sub ! 2 {τ = Fr′.mir} {d = offset Hd.the-type 2} refl (whole !))))) (from ! (stop !)) (init ! 14 refl (EL.lawful Fr.the-type Fr′.the-laws 𝓤 H A W tt .typed (h .frame) _ frame-is .0)) $
         assigns ! (addr ! (from ! (fld ! refl (hop ! (look-in ! 22 (sub ! 0 refl (whole !))) (stop !))))) (from ! (stop !)) (init ! 4 refl (tt, tt)) $
         assigns ! (agg ! (and-then ! (load ! (from ! (stop !)) (look ! 4 refl)) (and-then ! (load ! (from ! (fld ! {τ = word} {d = 8} refl (stop !))) (look-in ! 22 {τ = word} (sub ! 1 {τ = word} {d = 8} refl (whole !)))) (no-more !)))) (from ! (stop !)) (init ! 2 refl (tt, (tt, (record { fits = room .0 }, tt)))) $
         lft-new ! tt (λ ν′. rewrite ! 1 (λ (k : ℕ). ‵ (MutSlice (named 0) κ T.the-row .own (x γ cur) (sliceVal (b, o) k ∷ []))) (sym len) refl $ move ! (1 ∷ 2 ∷ []) $
@@ -303,7 +304,7 @@ module _ {M : Type 1} (𝓤 : URA M) (H : Heap 𝓤) (A : Atoms 𝓤) (W : Given
         move ! (2 ∷ 0 ∷ []) $ use2 W (raw (Hear 𝓤 H A mem run .pre (to-hear ν′ δ′ cur r))) (goes-hear ν′ δ′ cur r (is .1) inside) $
         -- [what `hear_at` asks; what is kept; _11; …]
         calls-at ! fm (Hear 𝓤 H A mem run) known-hear (to-hear ν′ δ′ cur r) (and-then ! (load ! (from ! (stop !)) (look ! 2 refl)) (and-then ! (load ! (from ! (stop !)) (look ! 16 refl)) (and-then ! (load ! (from ! (stop !)) (look ! 14 refl))
-        (and-then ! (load ! (from ! (fld ! {τ = tyInt w8} {d = 27} refl (stop !))) (look-in ! 20 {τ = tyInt w8} (sub ! 4 {τ = tyInt w8} {d = 27} refl (whole !)))) (and-then ! (load ! (from ! (fld ! {τ = tyInt w8} {d = 28} refl (stop !))) (look-in ! 20 {τ = tyInt w8} (sub ! 5 {τ = tyInt w8} {d = 28} refl (whole !)))) (no-more !)))))) (λ w′.
+        (and-then ! (load ! (from ! (fld ! {τ = tyInt w8} {d = offset Hd.the-type 4} refl (stop !))) (look-in ! 20 {τ = tyInt w8} (sub ! 4 {τ = tyInt w8} {d = offset Hd.the-type 4} refl (whole !)))) (and-then ! (load ! (from ! (fld ! {τ = tyInt w8} {d = offset Hd.the-type 5} refl (stop !))) (look-in ! 20 {τ = tyInt w8} (sub ! 5 {τ = tyInt w8} {d = offset Hd.the-type 5} refl (whole !)))) (no-more !)))))) (λ w′.
         use1 W (later (some (λ (d : Dispatch). ((‵ (flft (ν′ ∷ []) fullShare) ⊛ ‵ ftrue) ⊛ ‵ (Ds.the-row .own d (w′ ∷ []))) ⊛ raw (ensured 𝓤 H A hear.ended (hear.clauses 𝓤 H A mem run) (ν′ ∷ [], tt) (x δ′ cur, (r, (h .frame, (h .from, (h .to, tt))))) tt d)))) (id⊢ 𝓤 _) $ await ! tt $ pick ! (λ sent.
         split ! $ move ! (1 ∷ []) $ use1 W (some (λ (ws : List Station × (Unit {0} × (Unit {0} × (Unit {0} × (Unit {0} × Unit {0}))))). ‵ (lasts hear.ended (ν′ ∷ [], tt) (x δ′ cur, (r, (h .frame, (h .from, (h .to, tt))))) ws) ⊛ raw (fact 𝓤 (Said cur r h sent (ws .0))))) (id⊢ 𝓤 _) $ pick ! (λ ws.
         split ! $ move ! (1 ∷ []) $ heard ! (Said cur r h sent (ws .0)) (λ said. fsplit ! $ fsplit ! $ move ! (1 ∷ []) $ feqL ! (λ l.
@@ -317,7 +318,7 @@ module _ {M : Type 1} (𝓤 : URA M) (H : Heap 𝓤) (A : Atoms 𝓤) (W : Given
         rewrite ! 0 (λ (k : ℕ). ‵ (MutSlice (named 0) κ T.the-row .own (x γ (ws .0)) (sliceVal (b, o) k ∷ []))) len refl $ move ! (2 ∷ 3 ∷ 4 ∷ []) $ drop ! $ drop ! $ drop ! $
         -- [the slice; the token; _11; …]: the addressee's reply is kept
         use0 W (raw (Rep 𝓤 H A mem run .pre (to-rep r sent reply))) (goes-rep r sent reply (is .1) sent-sound (t .4)) $
-        calls-at ! fm (Rep 𝓤 H A mem run) known-rep (to-rep r sent reply) (and-then ! (load ! (from ! (stop !)) (look ! 17 refl)) (and-then ! (load ! (from ! (fld ! {τ = tyInt w8} {d = 28} refl (stop !))) (look-in ! 21 {τ = tyInt w8} (sub ! 5 {τ = tyInt w8} {d = 28} refl (whole !)))) (and-then ! (load ! (from ! (stop !)) (look ! 13 refl)) (and-then ! (load ! (from ! (stop !)) (look ! 19 refl)) (no-more !))))) (λ w″.
+        calls-at ! fm (Rep 𝓤 H A mem run) known-rep (to-rep r sent reply) (and-then ! (load ! (from ! (stop !)) (look ! 17 refl)) (and-then ! (load ! (from ! (fld ! {τ = tyInt w8} {d = offset Hd.the-type 5} refl (stop !))) (look-in ! 21 {τ = tyInt w8} (sub ! 5 {τ = tyInt w8} {d = offset Hd.the-type 5} refl (whole !)))) (and-then ! (load ! (from ! (stop !)) (look ! 13 refl)) (and-then ! (load ! (from ! (stop !)) (look ! 19 refl)) (no-more !))))) (λ w″.
         use1 W (later (some (λ (d : Dispatch). (‵ ftrue ⊛ ‵ (Ds.the-row .own d (w″ ∷ []))) ⊛ raw (ensured 𝓤 H A rep.ended (rep.clauses 𝓤 H A mem run) tt (r, (h .to, (sent, (reply, tt)))) tt d)))) (id⊢ 𝓤 _) $ await ! tt $ pick ! (λ next.
         split ! $ move ! (1 ∷ []) $ use1 W (raw (fact 𝓤 (next ≡ replyTo r (h .to) sent reply))) (rep-of 𝓤 H A mem run r (h .to) sent reply next) $ heard ! (next ≡ replyTo r (h .to) sent reply) (λ kept.
         split ! $ drop ! $ peeks ! Ds.the-row (Is Ds.the-row) (shows 𝓤 H A Ds.the-row) next (w″ ∷ []) (λ next-is.

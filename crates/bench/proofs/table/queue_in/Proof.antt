@@ -28,8 +28,6 @@ use denote.Builtin.{usize, u32}
 use denote.Ref.{RefT}
 use denote.Slice.{sliceVal, Room, MutSlice}
 use denote.Index.{row, whole-in, whole-out}
-use denote.Struct.Declared.{shape}
-use denote.Struct.Struct.{Struct}
 use denote.Steps.{owned, peeks, heard, nothing, only}
 use denote.Triple.Entry.{Vals, onEntry}
 use denote.Triple.Spec.{Meets, tripleOf}
@@ -47,11 +45,14 @@ use denote.Memory.{mem, shares, cellAt, partAt, partOf}
 use denote.Array.{Array, array-vals, array-tells, array-lawful, array-makes}
 use denote.ArrayMemory.{array-apart, array-whole}
 use denote.Lend.{Held, lends-slice, slice-back}
+use denote.Struct.Struct.{Struct}
+use denote.Struct.Declared.{shape}
 use denote.Struct.Steps.{spelt}
 use borrow.Struct.Items.{is-same}
 use Rattle.parts.specs.declared.request.Request.{Request}
 use Rattle.station.specs.declared.station.Station.{Station}
 use Rattle.bench.specs.declared.table.QueuedIn.{QueuedIn}
+use Rattle.bench.proofs.Laws.Layout.{size}
 use Rattle.bench.specs.Ring.{nobody}
 use Rattle.station.specs.Queue.{queueRule}
 use Rattle.bench.proofs.table.queue_at.Symbol.{name as #callee}
@@ -162,7 +163,7 @@ module _ {M : Type 1} (𝓤 : URA M) (H : Heap 𝓤) (A : Atoms 𝓤) (W : Given
     unfolding partOf
     walk g len inside =
         let within : i < length ts = omega arith in
-        let room : Room T.the-row (length ts) = (omega arith, subst (λ (k : ℕ). k * 312 < 2 ^ 63) (sym len) (lit< tt)) in
+        let room : Room T.the-row (length ts) = (omega arith, subst (λ (k : ℕ). k * size < 2 ^ 63) (sym len) (lit< tt)) in
         let array-typed : Lawful 𝓤 H A R = array-lawful 𝓤 H A W T.the-row (LL.lawful T.the-type T′.the-laws 𝓤 H A W) 64 in
         -- [true; what the parameters own], and in front of them each local with its room, the last first
         qed W (‵ ftrue ∷ ‵ (owns (R ∷ usize ∷ Request-row.the-row ∷ []) x at) ∷ []) ∵ enter ! C Λ code.function (mach ts ∷ vint w64 i ∷ LL.val Request-row.the-type Request-row′.the-laws the-q ∷ []) _ $

@@ -56,6 +56,7 @@ use Rattle.station.proofs.station.Station.Laws as T′
 use Rattle.bench.specs.declared.ring.Wire.{Wire}
 use Rattle.bench.specs.declared.table.Going.{Going}
 use Rattle.bench.specs.declared.table.Stepped.{Stepped}
+use Rattle.bench.proofs.Laws.Layout.{size, offset}
 use Rattle.bench.proofs.Laws.Stepping.{AllDone, steppedOf, all-steps}
 use Rattle.bench.proofs.ring.Wire as I
 use Rattle.bench.proofs.ring.Wire.Laws as I′
@@ -181,7 +182,7 @@ module _ {M : Type 1} (𝓤 : URA M) (H : Heap 𝓤) (A : Atoms 𝓤) (W : Given
     walk : ent 𝓤 (onEntry 𝓤 H A self.signature (κ, tt) (q, tt) a at) (WpFn 𝓤 H C Λ code.function (machOf ts ∷ s ∷ valG g ∷ []) Post)
     unfolding partOf
     walk =
-        let room₀ : Room T.the-row (length ts) = (omega arith, subst (λ (k : ℕ). k * 312 < 2 ^ 63) (sym len) (lit< tt)) in
+        let room₀ : Room T.the-row (length ts) = (omega arith, subst (λ (k : ℕ). k * size < 2 ^ 63) (sym len) (lit< tt)) in
         let wt = array-lawful 𝓤 H A W T.the-row (LL.lawful T.the-type T′.the-laws 𝓤 H A W) 64 .typed ts (vals ts) ts-is .0 in
         qed W ((‵ (flft κ q) ⊛ ‵ ftrue) ∷ ‵ (owns (R ∷ MutSlice (named 0) κ u8 ∷ G.the-row ∷ []) a at) ∷ []) ∵ enter ! C Λ code.function (machOf ts ∷ s ∷ valG g ∷ []) _ $
         alloc1 ! (λ l₀. alloc1 ! (λ l₁. alloc1 ! (λ l₂. alloc1 ! (λ l₃. alloc1 ! (λ l₄. alloc1 ! (λ l₅. alloc1 ! (λ l₆. alloc1 ! (λ l₇. alloc1 ! (λ l₈. alloc1 ! (λ l₉. alloc1 ! (λ l₁₀. alloc1 ! (λ l₁₁. alloc0 ! $ params1 ! $
@@ -219,9 +220,9 @@ module _ {M : Type 1} (𝓤 : URA M) (H : Heap 𝓤) (A : Atoms 𝓤) (W : Given
         move ! (1 ∷ []) $ peeks ! R (Is R) (shows 𝓤 H A R) (zs .0) (vals (zs .0)) (λ zs-is.
         let s-is = made (zs .0) (p .wire) (p .used) zs-is (fields .1 .0) (fields .1 .1 .1 .1 .0 .1) in
         -- [the last table's; _4; the token, true; the last octets; true; g's; the array's; _11; …; _5; …; dies _4; _3; …; _0; …]
-        assigns ! (of-opd ! (load ! (from ! (fld ! {τ = I′.mir} {d = 2} refl (stop !))) (look-in ! 19 {τ = I′.mir} (sub ! 1 {τ = I′.mir} {d = 2} refl (whole !))))) (from ! (stop !)) (init ! 17 refl (LL.lawful I.the-type I′.the-laws 𝓤 H A W .typed (p .wire) _ (fields .1 .0) .0)) $
+        assigns ! (of-opd ! (load ! (from ! (fld ! {τ = I′.mir} {d = offset G.the-type 1} refl (stop !))) (look-in ! 19 {τ = I′.mir} (sub ! 1 {τ = I′.mir} {d = offset G.the-type 1} refl (whole !))))) (from ! (stop !)) (init ! 17 refl (LL.lawful I.the-type I′.the-laws 𝓤 H A W .typed (p .wire) _ (fields .1 .0) .0)) $
         assigns ! (of-opd ! (load ! (from ! (stop !)) (look ! 1 refl))) (from ! (stop !)) (init ! 7 refl (array-lawful 𝓤 H A W T.the-row (LL.lawful T.the-type T′.the-laws 𝓤 H A W) 64 .typed (zs .0) (vals (zs .0)) zs-is .0)) $
-        assigns ! (agg ! (and-then ! (load ! (from ! (stop !)) (look ! 7 refl)) (and-then ! (load ! (from ! (stop !)) (look ! 17 refl)) (and-then ! (load ! (from ! (fld ! {τ = tyInt w64} {d = 40} refl (stop !))) (look-in ! 19 {τ = tyInt w64} (sub ! 4 {τ = tyInt w64} {d = 40} refl (whole !)))) (no-more !))))) (from ! (stop !))
+        assigns ! (agg ! (and-then ! (load ! (from ! (stop !)) (look ! 7 refl)) (and-then ! (load ! (from ! (stop !)) (look ! 17 refl)) (and-then ! (load ! (from ! (fld ! {τ = tyInt w64} {d = offset G.the-type 4} refl (stop !))) (look-in ! 19 {τ = tyInt w64} (sub ! 4 {τ = tyInt w64} {d = offset G.the-type 4} refl (whole !)))) (no-more !))))) (from ! (stop !))
         (init ! 28 refl (subst (λ (vs : List Val). Holds (hasTy S′.mir (of-parts vs (p .wire) (p .used))) × WT (of-parts vs (p .wire) (p .used))) (fused (zs .0)) (LL.lawful S.the-type S′.the-laws 𝓤 H A W .typed (steppedOf (zs .0) (p .wire) (p .used)) _ s-is .0))) $
         rewrite ! 28 (λ (vs : List Val). ‵ (fat fullShare S′.mir l₀ 0 (of-parts vs (p .wire) (p .used)))) (sym (fused (zs .0))) refl $
         returns ! (look ! 28 refl) $ forget ! 1 refl $ forget ! 7 refl $ forget ! 9 refl $ forget ! 11 refl $ forget ! 13 refl $ forget ! 15 refl $ forget ! 17 refl $ forget ! 19 refl $ forget ! 22 refl $ forget ! 24 refl $ forget ! 26 refl $ forget ! 28 refl $

@@ -49,6 +49,7 @@ use Rattle.station.specs.declared.station.Station.{Station}
 use Rattle.bench.specs.declared.table.Handing.{Handing}
 use Rattle.bench.specs.Table.{staysAt, touchedIn}
 use Rattle.bench.proofs.Laws.Breaks.{breaks}
+use Rattle.bench.proofs.Laws.Layout.{offset}
 use Rattle.bench.proofs.Laws.Touched.{touched-next, touched-found, touched-over}
 use Rattle.station.proofs.station.Station as T
 use Rattle.bench.proofs.table.Handing as Hd
@@ -161,7 +162,7 @@ module _ {M : Type 1} (𝓤 : URA M) (H : Heap 𝓤) (A : Atoms 𝓤) (W : Given
         let j-fits : j < 2 ^ 64 = omega arith in
         let within : j < length ys = omega arith in
         let next-fits : j + 1 < 2 ^ 64 = omega arith in
-        assigns ! (bin ! (load ! (from ! (stop !)) (look ! 6 refl)) (load ! (from ! (fld ! {τ = word} {d = 8} refl (stop !))) (look-in ! 8 {τ = word} (sub ! 1 {τ = word} {d = 8} refl (whole !)))) tt) (from ! (stop !)) (init ! 4 refl (tt, tt)) $
+        assigns ! (bin ! (load ! (from ! (stop !)) (look ! 6 refl)) (load ! (from ! (fld ! {τ = word} {d = offset Hd.the-type 1} refl (stop !))) (look-in ! 8 {τ = word} (sub ! 1 {τ = word} {d = offset Hd.the-type 1} refl (whole !)))) tt) (from ! (stop !)) (init ! 4 refl (tt, tt)) $
         rewrite ! 4 (λ (y : Bool). ‵ (fat fullShare tyBool l₅ 0 (vbool y))) test refl $
         stays ! (load ! (from ! (stop !)) (look ! 4 refl)) $
         -- a copy of the slice goes to `stays_at`, with the token
@@ -197,7 +198,7 @@ module _ {M : Type 1} (𝓤 : URA M) (H : Heap 𝓤) (A : Atoms 𝓤) (W : Given
         let long : length ys < 2 ^ 64 = room .0 in
         let most : j ≤ h .m = t .1 in
         let j-fits : j < 2 ^ 64 = omega arith in
-        assigns ! (bin ! (load ! (from ! (stop !)) (look ! 6 refl)) (load ! (from ! (fld ! {τ = word} {d = 8} refl (stop !))) (look-in ! 8 {τ = word} (sub ! 1 {τ = word} {d = 8} refl (whole !)))) tt) (from ! (stop !)) (init ! 4 refl (tt, tt)) $
+        assigns ! (bin ! (load ! (from ! (stop !)) (look ! 6 refl)) (load ! (from ! (fld ! {τ = word} {d = offset Hd.the-type 1} refl (stop !))) (look-in ! 8 {τ = word} (sub ! 1 {τ = word} {d = offset Hd.the-type 1} refl (whole !)))) tt) (from ! (stop !)) (init ! 4 refl (tt, tt)) $
         rewrite ! 4 (λ (y : Bool). ‵ (fat fullShare tyBool l₅ 0 (vbool y))) test refl $
         leaves-loop ! (load ! (from ! (stop !)) (look ! 4 refl)) $ exec ! C Λ En mirs.t-3 (atRet En Post) $
         assigns ! (of-opd ! (load ! (from ! (stop !)) (look ! 6 refl))) (from ! (stop !)) (init ! 14 refl (tt, record { fits = j-fits })) $
