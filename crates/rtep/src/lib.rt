@@ -59,7 +59,7 @@ pub extern "C" fn rtep_ring(file: &[u8], told: &mut [u64; 66]) -> u32
         return number;
     }
     let head = head_of(file);
-    let n = head.others as usize + 1;
+    let n = head.count();
     tell_ring(told, head.limit, members(&addresses, n));
     0
 }

@@ -14,12 +14,10 @@ use packet_codec::packet::Packet;
 use packet_codec::reading::Read;
 use packet_codec::reading::read_packet;
 use parts::moves::Event;
-use records::record::ring_into;
-use records::record::station_from;
+use records::record::open;
 use station::station::Answer;
 use station::station::Payload;
 use station::station::Station;
-use wholeness::whole::is_whole;
 
 // The information of a heard frame whose message is stored.
 pub fn heard_information(packet: &[u8], p: Payload) -> &[u8]
@@ -70,12 +68,9 @@ pub fn frame(
         return 9;
     }
     let mut addresses = [0u64; 64];
-    let n = ring_into(rec, &mut addresses);
+    let s = open(rec, &mut addresses);
+    let n = s.n as usize;
     if n == 0 {
-        return 35;
-    }
-    let s = station_from(rec, n);
-    if !is_whole(s) {
         return 35;
     }
     let a = hear_packet(s, members(&addresses, n), from, to, packet);

@@ -1,5 +1,6 @@
 // A station's record is made of a ring file.
 ghost use Rattle.shell.specs.Calls.{Making};
+use codec::head::head_of;
 use codec::ring::members;
 use records::layout::RECORD;
 use records::record::save_new;
@@ -16,7 +17,7 @@ pub fn make(rec: &mut [u8], file: &[u8], own: u64) -> u32
     if number != 0 {
         return number;
     }
-    let n = codec::bits::bits(file, 4, 6) as usize + 1;
+    let n = head_of(file).count();
     let seat = codec::ring::position(members(&addresses, n), own);
     if n <= seat {
         return 8;

@@ -6,10 +6,8 @@ use crate::places::put_queued;
 use codec::ring::members;
 use parts::request::Request;
 use records::layout::STORE;
-use records::record::ring_into;
+use records::record::open;
 use records::record::save;
-use records::record::station_from;
-use wholeness::whole::is_whole;
 
 // What a driver's numbers ask for: its `to` is an address.
 fn request_of(ring: &[u64], to: u64, priority: usize, channel: usize, length: usize) -> Request
@@ -39,12 +37,9 @@ pub fn queue(
         return 9;
     }
     let mut addresses = [0u64; 64];
-    let n = ring_into(rec, &mut addresses);
+    let s = open(rec, &mut addresses);
+    let n = s.n as usize;
     if n == 0 {
-        return 35;
-    }
-    let s = station_from(rec, n);
-    if !is_whole(s) {
         return 35;
     }
     let q = request_of(members(&addresses, n), to, priority, channel, payload.len());

@@ -14,11 +14,9 @@ use crate::telling::tell;
 use codec::ring::members;
 use packet_codec::packet::Packet;
 use records::layout::STORE;
-use records::record::ring_into;
+use records::record::open;
 use records::record::save;
-use records::record::station_from;
 use station::station::Answer;
-use wholeness::whole::is_whole;
 
 // Writes what an answer of 0 leaves: the frame, the station, and what is told.
 pub fn settle(
@@ -59,12 +57,9 @@ pub fn start(rec: &mut [u8], out: &mut [u8], told: &mut [u64; 84]) -> u32
         return 9;
     }
     let mut addresses = [0u64; 64];
-    let n = ring_into(rec, &mut addresses);
+    let s = open(rec, &mut addresses);
+    let n = s.n as usize;
     if n == 0 {
-        return 35;
-    }
-    let s = station_from(rec, n);
-    if !is_whole(s) {
         return 35;
     }
     let a = s.start();
@@ -83,12 +78,9 @@ pub fn timer(rec: &mut [u8], store: &[u8], out: &mut [u8], told: &mut [u64; 84])
         return 9;
     }
     let mut addresses = [0u64; 64];
-    let n = ring_into(rec, &mut addresses);
+    let s = open(rec, &mut addresses);
+    let n = s.n as usize;
     if n == 0 {
-        return 35;
-    }
-    let s = station_from(rec, n);
-    if !is_whole(s) {
         return 35;
     }
     let a = s.timer();

@@ -6,10 +6,8 @@ use crate::telling::tell_taken;
 use codec::octets::copy;
 use codec::ring::members;
 use records::layout::STORE;
-use records::record::ring_into;
+use records::record::open;
 use records::record::save;
-use records::record::station_from;
-use wholeness::whole::is_whole;
 
 // Lays a taken payload over the start of take's room, where it fits.
 pub fn lay_taken(room: &mut [u8], part: &[u8])
@@ -35,12 +33,9 @@ pub fn take(
         return 9;
     }
     let mut addresses = [0u64; 64];
-    let n = ring_into(rec, &mut addresses);
+    let s = open(rec, &mut addresses);
+    let n = s.n as usize;
     if n == 0 {
-        return 35;
-    }
-    let s = station_from(rec, n);
-    if !is_whole(s) {
         return 35;
     }
     let a = s.take(channel, room.len());

@@ -1,7 +1,7 @@
 -- Laws of the calls of a driver: what a whole record says, the number in its order, and what a refusal and an answer of 0 leave.
 -- Assumes nothing.
 use mathlib.Core.Path.{_≡_, refl, sym, ap, _∙_}
-use mathlib.Core.Bool.{Bool, true, false, cond}
+use mathlib.Core.Bool.{Bool, true, false}
 use mathlib.Core.List.{List, []}
 use Prim.Native.Nat.{ℕ, _+_, _-_, _*_, _≤_, zero-le}
 use native.Mathlib.Omega.{arith}
@@ -19,9 +19,9 @@ use Rattle.parts.specs.declared.frame.Dispatch.{Dispatch}
 use Rattle.parts.specs.declared.frame.Dispatch.the-variants.{Nothing, Sent}
 use Rattle.station.specs.declared.station.Station.{Station}
 use Rattle.station.specs.declared.station.Answer.{Answer}
-use Rattle.records.specs.Layout.{recordLength, placeLength, storeLength}
-use Rattle.records.specs.Record.{Loaded, ringFrom, stationOf, fieldsGood, notWhole, readRecord}
-use Rattle.records.proofs.Laws.Load.{wholeOf, record-good, Held}
+use Rattle.records.specs.Layout.{placeLength, storeLength}
+use Rattle.records.specs.Record.{readRecord}
+use Rattle.records.proofs.Laws.Load.{Held}
 use Rattle.shell.specs.Places.{fitsPlace, inPlace, carriedIn, informationOf}
 use Rattle.shell.specs.Packets.{sentOctets}
 use Rattle.shell.specs.Telling.{toldOf}
@@ -29,32 +29,6 @@ use Rattle.shell.specs.Calls.{ringIn, stationIn, callNumber, badOut, bad
 use Rattle.shell.proofs.Laws.Places.{fits-sound}
 
 -- ---- a record that is whole
-
--- what is known of a record's octets that a station was loaded from
-pub record WholeRecord (rec : List ℕ) : Type 0 where
-  pub sized : length rec ≡ recordLength
-  pub good-ring : ringFrom rec .number ≡ 0
-  pub good-fields : fieldsGood rec ≡ true
-  pub good-station : whole (stationOf rec) ≡ true
-  pub loaded : readRecord rec ≡ wholeOf (ringFrom rec) (stationOf rec)
-
--- a check that the record passed
-passed : (b : Bool) (rest : Loaded) → (cond b notWhole rest) .ok ≡ true → (b ≡ false) × (rest .ok ≡ true)
-passed true rest e = absurd (let z : _≡_ {A = ℕ} 0 1 = cc e in omega arith)
-passed false rest e = (refl, e)
-
-pub whole-record : (rec : List ℕ) → readRecord rec .ok ≡ true → WholeRecord rec
-unfolding readRecord
-whole-record rec e =
-    let a = passed _ _ e in
-    let b = passed _ _ (a .1) in
-    let c = passed _ _ (b .1) in
-    let d = passed _ _ (c .1) in
-    let h = eqb-true _ _ (not-false _ (a .0)) in
-    let g = eqb-true _ _ (not-false _ (b .0)) in
-    let f = not-false _ (c .0) in
-    let w = not-false _ (d .0) in
-    record { sized = h; good-ring = g; good-fields = f; good-station = w; loaded = record-good rec h g f w }
 
 -- the ring of a file that reads is in an array of 64
 pub length-filled : (file : List ℕ) → readRing file .number ≡ 0 → length (readRing file .ring .addresses) ≡ 64

@@ -1,17 +1,16 @@
 -- Laws of making a station's record: the number in its order, and what is left. Assumes nothing.
-use mathlib.Core.Path.{_≡_, refl, sym, ap, _∙_}
-use mathlib.Core.Bool.{Bool, true, false, cond}
+use mathlib.Core.Path.{_≡_, sym, ap, _∙_}
+use mathlib.Core.Bool.{true, false}
 use mathlib.Core.List.{List}
 use Prim.Native.Nat.{ℕ, _<_, _≤_}
 use native.Mathlib.Omega.{arith}
-use borrow.Author.Tests.{eq-eqb, eqb-true, ne-eqb, lt-ltb, le-ltb}
-use lib.Dec.{eqb}
+use borrow.Author.Tests.{eq-eqb, ne-eqb, lt-ltb, le-ltb}
 use lib.ListN.{length, take}
 use Rattle.codec.specs.Octets.{laid}
-use Rattle.codec.specs.Ring.{Ring, RingRead, count, addressesOf, position, isMember, ringRefusal, noRing, readRing}
+use Rattle.codec.specs.Ring.{Ring, RingRead, count, addressesOf, position, isMember, ringRefusal, readRing}
 use Rattle.codec.specs.Ring.{ringOf as ringIs}
 use Rattle.codec.proofs.Laws.Bits.{bits-below}
-use Rattle.codec.proofs.Laws.Ring.{HeadGood, head-good, head-passed, length-addresses, members-filled, members-laid, read-good}
+use Rattle.codec.proofs.Laws.Ring.{HeadGood, head-good, head-passed, length-addresses, members-filled, members-laid, read-number, read-good}
 use Rattle.station.specs.Stations.{made}
 use Rattle.records.specs.Layout.{recordLength, ringRoom}
 use Rattle.records.specs.Record.{recordOctets}
@@ -19,14 +18,6 @@ use Rattle.shell.specs.Calls.{membersOf, ringOf, makeNumber, Making}
 use Rattle.shell.proofs.Laws.Calls.{kept-old}
 
 -- ---- what is read of a ring file
-
-read-number : (file : List ℕ) → readRing file .number ≡ ringRefusal file
-unfolding readRing
-read-number file = go (eqb (ringRefusal file) 0) refl
-  where
-    go : (b : Bool) → eqb (ringRefusal file) 0 ≡ b → (cond b (record { number = 0; ring = ringIs file }) (noRing (ringRefusal file))) .number ≡ ringRefusal file
-    go true e = sym (eqb-true (ringRefusal file) 0 e)
-    go false e = refl
 
 -- how many members a file says that there are
 pub few-counted : (file : List ℕ) (n : ℕ) → n ≡ count file → n ≤ 64

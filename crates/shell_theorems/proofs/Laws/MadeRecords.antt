@@ -18,7 +18,8 @@ use Rattle.records.proofs.Laws.Sizes.{length-ring}
 use Rattle.record_theorems.specs.Typed.{Typed}
 use Rattle.record_theorems.proofs.Laws.Front.{file-fits}
 use Rattle.record_theorems.proofs.Laws.Stations.{length-station}
-use Rattle.shell.proofs.Laws.Calls.{whole-record, length-filled}
+use Rattle.records.proofs.Laws.Load.{whole-record}
+use Rattle.shell.proofs.Laws.Calls.{length-filled}
 use Rattle.shell.specs.Calls.{makeNumber, membersOf, ringIn}
 
 pub record GoodMaking (rec file : List ℕ) (own : ℕ) : Type 0 where

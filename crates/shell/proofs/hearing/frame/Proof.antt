@@ -3,7 +3,7 @@ use mathlib.Core.Path.{_≡_, sym, _∙_}
 use mathlib.Core.Bool.{false}
 use native.Mathlib.Omega.{arith}
 use lib.ListN.{length}
-use Rattle.records.proofs.Laws.Load.{Held, not-good, good-enough, blank-enough, not-whole, held}
+use Rattle.records.proofs.Laws.Load.{Held, none-held, opened-held}
 use Rattle.shell.specs.Calls.{badBuffers}
 use Rattle.shell.proofs.Laws.Calls.{few-held, information-short, good-buffers, refused-9, refused-35}
 use Rattle.shell.proofs.Laws.Hearing.{not-heard, heard-refused, heard-done}
@@ -20,47 +20,23 @@ returns c = not-heard (refused-9 (sym (c .before .bad-buffers .ensures) ∙ c .i
 good-buffers-at : (c : tie.Else1) → badBuffers (length (c .before .before .before .before .before .before .args .store .now)) (length (c .before .before .before .before .before .before .args .out .now)) ≡ false
 good-buffers-at c = sym (c .before .bad-buffers .ensures) ∙ c .if1 .left
 
-held-at : (c : tie.Else3) → Held (c .before .before .before .before .before .before .before .before .before .before .before .before .before .before .before .args .rec .now) (c .before .before .before .before .before .before .ring-into .last .1 .0) (c .before .before .before .before .before .before .ring-into .result) (c .before .before .station-from .result)
-held-at c =
-    held _ _ _ (c .before .before .before .before .before .before .ring-into .ensures) (c .before .before .before .before .if2 .left) _ _ (c .before .before .station-from .ensures) (c .before .is-whole .ensures) (c .if3 .left)
+held-at : (c : tie.Else2) → Held (c .before .before .before .before .before .before .before .before .before .before .before .before .args .rec .now) (c .before .before .before .open .last .1 .0) (c .before .before .before .open .result .n) (c .before .before .before .open .result)
+held-at c = opened-held (c .before .before .before .open .ensures) (c .if2 .left)
 
-slice-aggregate-ring-into : tie.Need-slice-aggregate-ring-into
-slice-aggregate-ring-into c = search needs
+slice-aggregate-open : tie.Need-slice-aggregate-open
+slice-aggregate-open c = search needs
 
-ring-into-requires : tie.Need-ring-into-requires
-ring-into-requires c κs = search needs
+open-requires : tie.Need-open-requires
+open-requires c κs = search needs
+
+cast-n : tie.Need-cast-n
+cast-n c = search needs
 
 same-length : tie.Need-same-length
 same-length c = search needs
 
 returns-2 : tie.Need-returns-2
-returns-2 c =
-    let e = c .before .before .before .before .before in
-    let r = c .before .before .ring-into in
-    not-heard (refused-35 (good-buffers-at e) (not-good (e .before .before .before .before .before .before .args .rec .now) (r .last .1 .0) (r .result) (r .ensures) (c .if2 .taken)))
-
-station-from-requires : tie.Need-station-from-requires
-station-from-requires c κs =
-    let e = c .before in
-    let r = e .before .before .ring-into in
-    good-enough (e .before .before .before .before .before .before .before .before .before .before .before .args .rec .now) (r .last .1 .0) (r .result) (r .ensures) (e .if2 .left)
-
-is-whole-requires : tie.Need-is-whole-requires
-is-whole-requires c κs =
-    let e = c .before .before in
-    let r = e .before .before .ring-into in
-    blank-enough (e .before .before .before .before .before .before .before .before .before .before .before .args .rec .now) (r .last .1 .0) (r .result) (r .ensures) (e .if2 .left) _ (c .station-from .ensures)
-
-same-length-2 : tie.Need-same-length-2
-same-length-2 c = search needs
-
-returns-3 : tie.Need-returns-3
-returns-3 c =
-    let e = c .before .before .before .before in
-    let r = e .before .before .ring-into in
-    not-heard
-    (refused-35 (good-buffers-at (e .before .before .before .before .before))
-    (not-whole (e .before .before .before .before .before .before .before .before .before .before .before .args .rec .now) (r .last .1 .0) (r .result) (r .ensures) (e .if2 .left) _ _ (c .before .before .station-from .ensures) (c .before .is-whole .ensures) (c .if3 .taken)))
+returns-2 c = not-heard (refused-35 (good-buffers-at (c .before .before .before .before .before .before)) (none-held (c .before .before .before .open .ensures) (c .if2 .taken)))
 
 slice-aggregate-members : tie.Need-slice-aggregate-members
 slice-aggregate-members c = search needs
@@ -71,13 +47,13 @@ members-requires c κs = search needs
 hear-packet-requires : tie.Need-hear-packet-requires
 hear-packet-requires c κs = few-held (held-at (c .before .before)) _ (c .members .ensures)
 
-same-length-3 : tie.Need-same-length-3
-same-length-3 c = search needs
+same-length-2 : tie.Need-same-length-2
+same-length-2 c = search needs
 
-returns-4 : tie.Need-returns-4
-returns-4 c =
+returns-3 : tie.Need-returns-3
+returns-3 c =
     let e = c .before .before .before .before .before in
-    heard-refused _ (good-buffers-at (e .before .before .before .before .before .before .before .before .before)) (held-at e) (c .before .before .before .members .ensures) (c .before .before .hear-packet .ensures) (c .if4 .taken)
+    heard-refused _ (good-buffers-at (e .before .before .before .before .before .before)) (held-at e) (c .before .before .before .members .ensures) (c .before .before .hear-packet .ensures) (c .if3 .taken)
 
 slice-aggregate-members-2 : tie.Need-slice-aggregate-members-2
 slice-aggregate-members-2 c = slice-aggregate-members (c .before .before .before .before .before .before .before .before)
@@ -92,7 +68,7 @@ settle-requires : tie.Need-settle-requires
 settle-requires c κs =
     let e = c .before .before .before .before .before .before .before .before .before .before .before .before in
     let h = held-at e .sized in
-    (omega (arith, h), (good-buffers _ _ (good-buffers-at (e .before .before .before .before .before .before .before .before .before)) .1, information-short _ _ _ (c .information-of .ensures)))
+    (omega (arith, h), (good-buffers _ _ (good-buffers-at (e .before .before .before .before .before .before)) .1, information-short _ _ _ (c .information-of .ensures)))
 
 heard-information-requires : tie.Need-heard-information-requires
 heard-information-requires c κs = search needs
@@ -100,19 +76,19 @@ heard-information-requires c κs = search needs
 put-received-requires : tie.Need-put-received-requires
 put-received-requires c κs = search needs
 
+same-length-3 : tie.Need-same-length-3
+same-length-3 c = search needs
+
 same-length-4 : tie.Need-same-length-4
 same-length-4 c = search needs
 
 same-length-5 : tie.Need-same-length-5
 same-length-5 c = search needs
 
-same-length-6 : tie.Need-same-length-6
-same-length-6 c = search needs
-
-returns-5 : tie.Need-returns-5
-returns-5 c =
+returns-4 : tie.Need-returns-4
+returns-4 c =
     let e = c .before .before .before .before .before .before .before .before .before .before .before .before .before .before .before .before .before .before .before .before .before .before in
-    heard-done _ (good-buffers-at (e .before .before .before .before .before .before .before .before .before)) (held-at e) (c .before .before .before .before .before .before .before .before .before .before .before .before .before .before .before .before .before .before .before .before .members .ensures) (c .before .before .before .before .before .before .before .before .before .before .before .before .before .before .before .before .before .before .before .hear-packet .ensures) (c .before .before .before .before .before .before .before .before .before .before .before .before .before .before .before .before .before .if4 .left) _ _ _ _ _ _ _
+    heard-done _ (good-buffers-at (e .before .before .before .before .before .before)) (held-at e) (c .before .before .before .before .before .before .before .before .before .before .before .before .before .before .before .before .before .before .before .before .members .ensures) (c .before .before .before .before .before .before .before .before .before .before .before .before .before .before .before .before .before .before .before .hear-packet .ensures) (c .before .before .before .before .before .before .before .before .before .before .before .before .before .before .before .before .before .if3 .left) _ _ _ _ _ _ _
     (c .before .before .before .before .before .before .before .before .before .before .before .before .members2 .ensures)
     (c .before .before .before .before .before .before .before .before .before .before .information-of .ensures)
     (c .before .before .before .before .before .before .before .before .before .settle .ensures)
@@ -125,26 +101,23 @@ frame-spec =
     (tie.spec
     bad-buffers-requires
     returns
-    slice-aggregate-ring-into
-    ring-into-requires
+    slice-aggregate-open
+    open-requires
+    cast-n
     same-length
     returns-2
-    station-from-requires
-    is-whole-requires
-    same-length-2
-    returns-3
     slice-aggregate-members
     members-requires
     hear-packet-requires
-    same-length-3
-    returns-4
+    same-length-2
+    returns-3
     slice-aggregate-members-2
     members-requires-2
     information-of-requires
     settle-requires
     heard-information-requires
     put-received-requires
+    same-length-3
     same-length-4
     same-length-5
-    same-length-6
-    returns-5)
+    returns-4)

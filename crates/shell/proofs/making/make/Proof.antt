@@ -1,8 +1,8 @@
 -- `making::make` meets its contract: at each return the tests that led there say which number it is.
-use mathlib.Core.Path.{_≡_, ap}
-use Prim.Native.Nat.{ℕ, _+_}
+use mathlib.Core.Path.{_≡_, ap, _∙_}
 use native.Mathlib.Omega.{arith}
-use Rattle.codec.specs.Ring.{count}
+use Rattle.codec.specs.Ring.{count, countOf}
+use Rattle.codec.proofs.Laws.Ring.{few-others}
 use Rattle.shell.proofs.Laws.Making.{no-record, no-ring, no-seat, all-made, few-counted, head-read, file-fits}
 use borrow.Author.Needs.{needs}
 use Rattle.shell.proofs.making.make.Statement.{statement}
@@ -20,11 +20,11 @@ read-into-requires c κs = search needs
 returns-2 : tie.Need-returns-2
 returns-2 c = no-ring _ _ _ (c .before .before .before .before .if1 .left) _ (c .before .before .read-into .ensures .0) (c .if2 .taken)
 
-bits-requires : tie.Need-bits-requires
-bits-requires c κs = omega (arith, head-read _ _ (c .before .before .read-into .ensures .0) (c .if2 .left) .long)
+head-of-requires : tie.Need-head-of-requires
+head-of-requires c κs = omega (arith, head-read _ _ (c .before .before .read-into .ensures .0) (c .if2 .left) .long)
 
-add-n : tie.Need-add-n
-add-n c = search needs
+count-requires : tie.Need-count-requires
+count-requires c κs = few-others _ _ (c .head-of .ensures)
 
 slice-aggregate-members : tie.Need-slice-aggregate-members
 slice-aggregate-members c = search needs
@@ -36,32 +36,32 @@ position-requires : tie.Need-position-requires
 position-requires c κs = search needs
 
 -- how many members there are
-counted : (c : tie.After-bits) → c .bits .result + 1 ≡ count (c .before .before .before .before .before .before .before .before .args .file .now)
-counted c = ap (λ (k : ℕ). k + 1) (c .bits .ensures .0)
+counted : (c : tie.After-count) → c .count .result ≡ count (c .before .before .before .before .before .before .before .before .before .args .file .now)
+counted c = c .count .ensures ∙ ap countOf (c .before .head-of .ensures)
 
 returns-3 : tie.Need-returns-3
 returns-3 c =
-    let b = c .before .before .before .before in
-    let r = b .before .before .before in
-    let good = b .before .if2 .left in
-    no-seat _ _ _ (r .before .before .if1 .left) _ (r .read-into .ensures .0) good _ (counted b) _ _ (r .read-into .ensures .1 good) _ (c .before .before .members .ensures) _ (c .before .position .ensures)
+    let k = c .before .before .before .before in
+    let r = c .before .before .before .before .before .before .before .before in
+    let good = c .before .before .before .before .before .before .if2 .left in
+    no-seat _ _ _ (r .before .before .if1 .left) _ (r .read-into .ensures .0) good _ (counted k) _ _ (r .read-into .ensures .1 good) _ (c .before .before .members .ensures) _ (c .before .position .ensures)
     (c .if3 .taken)
 
 save-new-requires : tie.Need-save-new-requires
 save-new-requires c κs =
-    let b = c .before .before .before .before .before in
-    let r = b .before .before .before in
-    (omega arith, (file-fits _ _ (r .read-into .ensures .0) (b .before .if2 .left), few-counted _ _ (counted b)))
+    let k = c .before .before .before .before .before in
+    let r = c .before .before .before .before .before .before .before .before .before in
+    (omega arith, (file-fits _ _ (r .read-into .ensures .0) (c .before .before .before .before .before .before .before .if2 .left), few-counted _ _ (counted k)))
 
 same-length : tie.Need-same-length
 same-length c = search needs
 
 returns-4 : tie.Need-returns-4
 returns-4 c =
-    let b = c .before .before .before .before .before .before .before .before in
-    let r = b .before .before .before in
-    let good = b .before .if2 .left in
-    all-made _ _ _ (r .before .before .if1 .left) _ (r .read-into .ensures .0) good _ (counted b) _ _ (r .read-into .ensures .1 good) _ (c .before .before .before .before .before .before .members .ensures) _ (c .before .before .before .before .before .position .ensures)
+    let k = c .before .before .before .before .before .before .before .before in
+    let r = c .before .before .before .before .before .before .before .before .before .before .before .before in
+    let good = c .before .before .before .before .before .before .before .before .before .before .if2 .left in
+    all-made _ _ _ (r .before .before .if1 .left) _ (r .read-into .ensures .0) good _ (counted k) _ _ (r .read-into .ensures .1 good) _ (c .before .before .before .before .before .before .members .ensures) _ (c .before .before .before .before .before .position .ensures)
     (c .before .before .before .before .if3 .left) _
     (c .before .before .save-new .ensures)
 
@@ -73,8 +73,8 @@ make-spec =
     slice-aggregate-read-into
     read-into-requires
     returns-2
-    bits-requires
-    add-n
+    head-of-requires
+    count-requires
     slice-aggregate-members
     members-requires
     position-requires
