@@ -52,7 +52,7 @@ use parts::live::Live;
 use station::station::Counts;
 use station::station::Station;
 use station::station::Turn;
-use wholeness::whole::is_whole;
+use wholeness::whole::whole;
 
 // Whether only zeros follow the ring file, which has `n` octets.
 pub fn pad_good(s: &[u8], n: usize) -> bool
@@ -148,7 +148,7 @@ pub fn open(s: &[u8], addresses: &mut [u64]) -> Station
         return Station::new(0, 0, 0);
     }
     let station = station_from(s, head.count(), head.limit as u8);
-    if !is_whole(station) {
+    if !whole(station) {
         return Station::new(0, 0, 0);
     }
     station

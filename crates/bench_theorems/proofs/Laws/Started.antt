@@ -9,8 +9,8 @@ use Rattle.parts.specs.Choose.{pick}
 use Rattle.parts.specs.Messages.{best, bestOf}
 use Rattle.parts.specs.Live.{after}
 use Rattle.station.specs.Stations.{made, quiet, answered, head}
-use Rattle.station.specs.Round.{sight}
-use Rattle.plain_rules.specs.Round.{opening, startRound}
+use Rattle.station.specs.Sight.{sight}
+use Rattle.sent.specs.Round.{opening, startRound}
 use Rattle.station.specs.Start.{sentFirst, started, startRule}
 use Rattle.parts.specs.declared.moves.State.the-variants.{Idle}
 use Rattle.parts.specs.declared.moves.Event.the-variants.{Start}

@@ -12,7 +12,7 @@ use Rattle.codec.specs.Ring.{RingRead, position, isMember, badAddress, addresse
 use Rattle.codec.proofs.Laws.Bits.{bits-below}
 use Rattle.codec.proofs.Laws.Order.{Apart, NoneHolds, none-holds}
 use Rattle.codec.proofs.Laws.Ring.{read-zero, read-good, head-passed, refused-late, length-addresses, members-filled}
-use Rattle.shell.specs.Calls.{ringOf}
+use Rattle.driver_calls.specs.Calls.{ringOf}
 use Rattle.wire_theorems.specs.Wire.{GoodAddresses}
 
 -- ---- of 48 bits

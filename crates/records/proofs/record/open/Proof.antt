@@ -64,8 +64,8 @@ station-from-requires c κs =
     let sized = e .before .before .before .before .before .before .before .if1 .left in
     (omega (arith, sized), omega (arith, counted (c .before), bits-below s 4 6), good-rests s sized (good e))
 
-is-whole-requires : tie.Need-is-whole-requires
-is-whole-requires c κs =
+whole-requires : tie.Need-whole-requires
+whole-requires c κs =
     let e = c .before .before .before in
     blank-enough _ (e .before .before .before .before .before .before .before .if1 .left) (good e) _ _ _ (c .station-from .ensures)
 
@@ -82,7 +82,7 @@ returns-3 c =
     rw (c .new3 .ensures)
     (not-opened _ _
     (bad-station _ (e .before .before .before .before .before .before .before .if1 .left) (good e) _ _ _ (c .before .before .before .station-from .ensures) (counted (c .before .before .before .before .before)) (limited (c .before .before .before .before .before .before .before .before .before .before .before .before)) _
-    (c .before .before .is-whole .ensures)
+    (c .before .before .whole .ensures)
     (t .if3 .taken)))
 
 same-length-3 : tie.Need-same-length-3
@@ -92,7 +92,7 @@ returns-4 : tie.Need-returns-4
 returns-4 c =
     let e = c .before .before .before .before .before in
     opened _ (e .before .before .before .before .before .before .before .if1 .left) (good e) _ _ _ (c .before .before .station-from .ensures) (counted (c .before .before .before .before)) (limited (c .before .before .before .before .before .before .before .before .before .before .before)) _
-    (c .before .is-whole .ensures)
+    (c .before .whole .ensures)
     (c .if3 .left) _ _
     (c .before .before .before .before .before .before .before .before .octets-good .ensures .1 (not-false _ (e .if2 .left)))
 
@@ -111,7 +111,7 @@ open-spec =
     count-requires
     cast-station-from
     station-from-requires
-    is-whole-requires
+    whole-requires
     new-requires-3
     same-length-2
     returns-3
