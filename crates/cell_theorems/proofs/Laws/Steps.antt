@@ -1,0 +1,187 @@
+-- A step of a cell is a step of the bench. Assumes nothing.
+use mathlib.Core.Path.{_≡_, refl, sym, ap, subst, _∙_}
+use mathlib.Core.Bool.{Bool, true, false}
+use mathlib.Core.List.{List}
+use Prim.Native.Nat.{ℕ, _<_}
+use native.Mathlib.Omega.{arith}
+use lib.Dec.{eqb}
+use lib.ListN.{getD}
+use borrow.Author.Tests.{eqb-true, eqb-false}
+use Rattle.codec.specs.Ring.{position}
+use Rattle.parts.specs.declared.frame.Frame.{Frame}
+use Rattle.parts.specs.declared.frame.Dispatch.{Dispatch}
+use Rattle.parts.specs.declared.frame.Dispatch.the-variants.{Nothing, Sent}
+use Rattle.station.specs.Heard.{frameRule}
+use Rattle.station.specs.declared.station.Station.{Station}
+use Rattle.station.specs.declared.station.Answer.{Answer}
+use Rattle.shell.specs.Calls.{ringOf, stationIn}
+use Rattle.wire_theorems.specs.Wire.{OnWire}
+use Rattle.bench.specs.Ring.{stationAt}
+use Rattle.bench.specs.Delivery.{deliver, step}
+use Rattle.bench.specs.Runs.{stepped, afterEvent}
+use Rattle.bench.specs.declared.ring.Wire.{Wire}
+use Rattle.bench.specs.declared.ring.Bench.{Bench}
+use Rattle.bench_theorems.specs.Quiet.{Quiet, Picture}
+use Rattle.bench_theorems.proofs.Laws.Answers.{Role, sends, answers, overhears, role, silent-at, answer-at, new-sent}
+use Rattle.bench_theorems.proofs.Laws.Delivering.{step-delivers, stays-there, hears-there, reply-in, step-wire, quiet-step}
+use Rattle.bench_theorems.proofs.Theorems.ReachedQuiet.{event-n}
+use Rattle.cell_theorems.specs.Cell.{Node, Transit, Cell, members, retries, addressAt, left, FrameCall, HandedOn}
+use Rattle.cell_theorems.specs.AsBench.{StepDone}
+use Rattle.cell_theorems.proofs.Laws.Files.{position-is, same-position}
+use Rattle.cell_theorems.proofs.Laws.Nodes.{Kept, frame-number, frame-station, frame-silent, frame-conveys, frame-keeps}
+use Rattle.cell_theorems.proofs.Laws.Matching.{Carries, Matches, left-carries}
+
+-- the frame of a dispatch, and where it goes
+abbrev frameIn : Frame → Dispatch → Frame
+frameIn d Nothing = d
+frameIn d (Sent f to) = f
+
+abbrev toIn : ℕ → Dispatch → ℕ
+toIn d Nothing = d
+toIn d (Sent f to) = to
+
+module _ (file : List ℕ) (c c′ : Cell) (b : Bench) (m : Matches file c b) (s : HandedOn file c c′) where
+  abbrev q : Quiet (retries file) b
+  q = m .quiet
+
+  abbrev w : Carries file (c .wire) (b .wire)
+  w = m .wire
+
+  abbrev f : Frame
+  f = q .frame
+
+  abbrev from : ℕ
+  from = b .wire .from
+
+  abbrev to : ℕ
+  to = q .to
+
+  inside : (p : ℕ) → p < members file → p < b .n
+  inside p h = omega (arith, m .size)
+
+  from-member : b .wire .from < members file
+  from-member = omega (arith, m .size, q .picture .sender-member)
+
+  to-member : q .to < members file
+  to-member = omega (arith, m .size, q .picture .addressee-member)
+
+  frame-same : w .frame ≡ f
+  frame-same = ap (frameIn f) (sym (w .frame-is) ∙ q .on-wire)
+
+  to-same : w .to ≡ to
+  to-same = ap (toIn to) (sym (w .frame-is) ∙ q .on-wire)
+
+  on-wire : OnWire (ringOf file) f (w .information) (c .wire .octets)
+  on-wire = subst (λ (g : Frame). OnWire (ringOf file) g (w .information) (c .wire .octets)) frame-same (w .on-wire)
+
+  to-address : c .wire .to ≡ addressAt file to
+  to-address = w .to-address ∙ ap (addressAt file) to-same
+
+  from-is : position (ringOf file) (c .wire .from) ≡ from
+  from-is = ap (position (ringOf file)) (w .from-address) ∙ position-is file (m .good) from from-member
+
+  to-is : position (ringOf file) (c .wire .to) ≡ to
+  to-is = ap (position (ringOf file)) to-address ∙ position-is file (m .good) to to-member
+
+  -- ---- who hears it
+
+  abbrev Another : ℕ → Type 0
+  Another p = addressAt file p ≡ c .wire .from → ⊥
+
+  away : (p : ℕ) → Another p → p ≡ b .wire .from → ⊥
+  away p o e = o (ap (addressAt file) e ∙ sym (w .from-address))
+
+  back : (p : ℕ) → p < members file → (p ≡ b .wire .from → ⊥) → Another p
+  back p h o e = o (same-position file (m .good) p from h from-member (e ∙ w .from-address))
+
+  heard-number : (p : ℕ) → p < members file → (p ≡ b .wire .from → ⊥) → frameRule (stationAt b p) f from to .number ≡ 0
+  heard-number p h o = go (role from to p)
+    where
+      go : Role (b .wire .from) (q .to) p → frameRule (stationAt b p) (q .frame) (b .wire .from) (q .to) .number ≡ 0
+      go (sends e) = absurd (o e)
+      go (answers e x) = ap (λ (i : ℕ). frameRule (stationAt b i) f from to .number) e ∙ answer-at (q .picture) .number
+      go (overhears x y) = silent-at (q .picture) p (inside p h) o x .number
+
+  module _ (p : ℕ) (h : p < members file) (o : addressAt file p ≡ c .wire .from → ⊥) where
+    abbrev call : FrameCall (c .wire) (c .node p) (c′ .node p)
+    call = s .calls p h o
+
+    rule-is : frameRule (stationIn (c .node p .rec)) f from to ≡ frameRule (stationAt b p) f from to
+    rule-is = ap (λ (x : Station). frameRule x f from to) (m .stations p h)
+
+    zero : frameRule (stationIn (c .node p .rec)) f from to .number ≡ 0
+    zero = ap (λ (a : Answer). a .number) rule-is ∙ heard-number p h (away p o)
+
+    call-number : s .calls p h o .number ≡ 0
+    call-number = frame-number (m .kept p h) (c .wire) (w .octets) f (w .information) on-wire from to from-is to-is call ∙ zero
+
+    call-keeps : Kept file (c′ .node p)
+    call-keeps = frame-keeps (m .kept p h) (c .wire) (w .octets) f (w .information) on-wire from to from-is to-is call
+
+    call-station : stationIn (c′ .node p .rec) ≡ stationAt (step b) p
+    call-station =
+        frame-station (m .kept p h) (c .wire) (w .octets) f (w .information) on-wire from to from-is to-is call zero
+        ∙ ap (λ (a : Answer). a .station) rule-is
+        ∙ sym (hears-there b q p (inside p h) (away p o))
+        ∙ ap (λ (x : Bench). stationAt x p) (sym (step-delivers b q))
+
+    call-silent : (p ≡ q .to → ⊥) → getD (s .calls p h o .told) 0 0 ≡ 0
+    call-silent x =
+        frame-silent (m .kept p h) (c .wire) (w .octets) f (w .information) on-wire from to from-is to-is call zero
+        (ap (λ (a : Answer). a .sent) rule-is ∙ silent-at (q .picture) p (inside p h) (away p o) x .sent)
+
+  sender-station : (p : ℕ) (h : p < members file) → p ≡ b .wire .from → stationIn (c′ .node p .rec) ≡ stationAt (step b) p
+  sender-station p h e =
+      ap (λ (x : Node). stationIn (x .rec)) (s .sender-stays p h (ap (addressAt file) e ∙ sym (w .from-address)))
+      ∙ m .stations p h
+      ∙ ap (stationAt b) e
+      ∙ sym (stays-there b q)
+      ∙ ap (λ (x : Bench). stationAt x from) (sym (step-delivers b q))
+      ∙ ap (stationAt (step b)) (sym e)
+
+  -- ---- what is on the wire then
+
+  addressee-another : addressAt file (q .to) ≡ c .wire .from → ⊥
+  addressee-another = back to to-member (q .picture .another)
+
+  next-wire : Carries file (c′ .wire) (step b .wire)
+  next-wire =
+      let o = addressee-another in
+      let k = frame-conveys (m .kept to to-member) (c .wire) (w .octets) f (w .information) on-wire from to from-is to-is (call to to-member o) (zero to to-member o)
+      (reply-in b q .frame) (reply-in b q .to) (ap (λ (a : Answer). a .sent) (rule-is to to-member o) ∙ new-sent (q .picture)) in
+      subst (λ (x : Transit). Carries file x (step b .wire)) (sym (s .answers to to-member o (sym to-address)))
+      (subst (Carries file (left (addressAt file to) (s .calls to to-member o .out) (s .calls to to-member o .told))) (sym (step-wire b q))
+      (left-carries file (c .node to .store) (m .kept to to-member .store-octets) to (reply-in b q .frame) (reply-in b q .to) (s .calls to to-member o .out)
+      (s .calls to to-member o .told) k))
+
+  pub step-matches : Matches file c′ (step b)
+  unfolding afterEvent
+  step-matches =
+      record {
+        good = m .good;
+        size = event-n b stepped ∙ m .size;
+        quiet = quiet-step b q;
+        kept = λ p h. kept-at p h (eqb p from) refl;
+        stations = λ p h. station-at p h (eqb p from) refl;
+        wire = next-wire;
+      }
+    where
+      kept-at : (p : ℕ) → p < members file → (t : Bool) → eqb p (b .wire .from) ≡ t → Kept file (c′ .node p)
+      kept-at p h true e =
+          subst (Kept file) (sym (s .sender-stays p h (ap (addressAt file) (eqb-true p from e) ∙ sym (w .from-address)))) (m .kept p h)
+      kept-at p h false e = call-keeps p h (back p h (eqb-false p from e))
+
+      station-at : (p : ℕ) → p < members file → (t : Bool) → eqb p (b .wire .from) ≡ t → stationIn (c′ .node p .rec) ≡ stationAt (step b) p
+      station-at p h true e = sender-station p h (eqb-true p from e)
+      station-at p h false e = call-station p h (back p h (eqb-false p from e))
+
+  pub step-done : StepDone file c c′ s
+  step-done =
+      record {
+        number = call-number;
+        addressee = to;
+        addressee-member = to-member;
+        addressed = sym to-address;
+        another = addressee-another;
+        silent = call-silent;
+      }

@@ -1,0 +1,1 @@
+-- Demand 3 at a driver's calls. One theorem a file.
