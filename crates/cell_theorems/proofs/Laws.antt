@@ -8,3 +8,6 @@ pub mod Matching
 pub mod Starts
 pub mod Steps
 pub mod Queues
+pub mod Rows
+pub mod Runs
+pub mod Waiting

@@ -1,5 +1,5 @@
 -- Demand 3 of a cell: how many packets are composed, from the acceptance of a message on, until its own is on the wire.
-use Prim.Native.Nat.{ℕ, _+_, _*_, _<_, _≤_}
+use Prim.Native.Nat.{ℕ, suc, _+_, _*_, _<_, _≤_}
 use mathlib.Core.Path.{_≡_}
 use mathlib.Core.Bool.{Bool, true, false, _&&_}
 use mathlib.Core.List.{List, [], _∷_, List·Memᴰ}
@@ -60,9 +60,10 @@ StaysOnTopIn {file} x priority (ask c c₁ c′ a acts q r) = OnTopIn file x pri
 
 -- ---- the bound, of a run after the acceptance
 
+-- how many of the acts are steps
 unfoldable pub stepsOf : List Act → ℕ
 stepsOf [] = 0
-stepsOf (handed ∷ acts) = 1 + stepsOf acts
+stepsOf (handed ∷ acts) = suc (stepsOf acts)
 stepsOf (asked a ∷ acts) = stepsOf acts
 
 pub record BoundIn (file : List ℕ) (x : Spot) {c : Cell} {acts : List Act} {c′ : Cell} (r : Run file c acts c′) : Type 0 where

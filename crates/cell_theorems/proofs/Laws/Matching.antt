@@ -1,13 +1,13 @@
 -- A cell beside a bench: all that is kept from step to step. Assumes nothing.
-use mathlib.Core.Path.{_≡_, refl, sym, subst}
+use mathlib.Core.Path.{_≡_, refl, sym, ap, subst, _∙_}
 use mathlib.Core.List.{List}
 use Prim.Native.Nat.{ℕ, _<_}
-use lib.ListN.{take, getD}
+use native.Mathlib.Omega.{arith}
 use Rattle.codec.specs.Octets.{Octets}
-use Rattle.codec.specs.Ring.{readRing}
+use Rattle.codec.specs.Ring.{readRing, position}
 use Rattle.parts.specs.declared.frame.Frame.{Frame}
 use Rattle.parts.specs.declared.frame.Dispatch.{Dispatch}
-use Rattle.parts.specs.declared.frame.Dispatch.the-variants.{Sent}
+use Rattle.parts.specs.declared.frame.Dispatch.the-variants.{Nothing, Sent}
 use Rattle.shell.specs.Calls.{ringOf, stationIn}
 use Rattle.shell.specs.Places.{carriedIn}
 use Rattle.wire_theorems.specs.Wire.{OnWire, Conveyed}
@@ -18,6 +18,7 @@ use Rattle.bench_theorems.specs.Quiet.{Quiet}
 use Rattle.cell_theorems.specs.Cell.{Node, Transit, Cell, members, retries, addressAt, left}
 use Rattle.cell_theorems.specs.AsBench.{AsBench}
 use Rattle.cell_theorems.proofs.Laws.Octets.{packet-octets, carried-octets}
+use Rattle.cell_theorems.proofs.Laws.Files.{position-is}
 use Rattle.cell_theorems.proofs.Laws.Nodes.{Kept}
 
 -- the packet on the wire is that of the bench's frame, with some information
@@ -39,19 +40,52 @@ pub record Matches (file : List ℕ) (c : Cell) (b : Bench) : Type 0 where
   pub stations : (p : ℕ) → p < members file → stationIn (c .node p .rec) ≡ stationAt b p
   pub wire : Carries file (c .wire) (b .wire)
 
-pub as-bench : {file : List ℕ} {c : Cell} {b : Bench} → Matches file c b → AsBench file c b
-as-bench m =
-    let w = m .wire in
-    record {
-      stations = m .stations;
-      frame = w .frame;
-      to = w .to;
-      frame-is = w .frame-is;
-      information = w .information;
-      on-wire = w .on-wire;
-      from-address = w .from-address;
-      to-address = w .to-address;
-    }
+-- the frame of a dispatch, and where it goes
+abbrev frameIn : Frame → Dispatch → Frame
+frameIn d Nothing = d
+frameIn d (Sent f to) = f
+
+abbrev toIn : ℕ → Dispatch → ℕ
+toIn d Nothing = d
+toIn d (Sent f to) = to
+
+module _ {file : List ℕ} {c : Cell} {b : Bench} (m : Matches file c b) where
+  pub as-bench : AsBench file c b
+  as-bench =
+      let w = m .wire in
+      record {
+        stations = m .stations;
+        frame = w .frame;
+        to = w .to;
+        frame-is = w .frame-is;
+        information = w .information;
+        on-wire = w .on-wire;
+        from-address = w .from-address;
+        to-address = w .to-address;
+      }
+
+  -- ---- the frame on the wire is the quiet bench's, and its ends are members
+
+  pub frame-same : m .wire .frame ≡ m .quiet .frame
+  frame-same = ap (frameIn (m .quiet .frame)) (sym (m .wire .frame-is) ∙ m .quiet .on-wire)
+
+  pub to-same : m .wire .to ≡ m .quiet .to
+  to-same = ap (toIn 0) (sym (m .wire .frame-is) ∙ m .quiet .on-wire)
+
+  pub from-inside : b .wire .from < members file
+  from-inside = omega (arith, m .size, m .quiet .picture .sender-member)
+
+  pub to-inside : m .quiet .to < members file
+  to-inside = omega (arith, m .size, m .quiet .picture .addressee-member)
+
+  pub to-address : c .wire .to ≡ addressAt file (m .quiet .to)
+  to-address = m .wire .to-address ∙ ap (addressAt file) to-same
+
+  pub from-is : position (ringOf file) (c .wire .from) ≡ b .wire .from
+  from-is = ap (position (ringOf file)) (m .wire .from-address) ∙ position-is file (m .good) (b .wire .from) from-inside
+
+  pub to-is : position (ringOf file) (c .wire .to) ≡ m .quiet .to
+  to-is = ap (position (ringOf file)) to-address ∙ position-is file (m .good) (m .quiet .to) to-inside
 
 -- what a call leaves that sends f
 pub left-carries : (file store : List ℕ) → Octets store → (p : ℕ) (f : Frame) (to : ℕ) (out told : List ℕ) → Conveyed (ringOf file) store f to out told

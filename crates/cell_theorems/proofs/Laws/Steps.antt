@@ -29,16 +29,7 @@ use Rattle.cell_theorems.specs.Cell.{Node, Transit, Cell, members, retri
 use Rattle.cell_theorems.specs.AsBench.{StepDone}
 use Rattle.cell_theorems.proofs.Laws.Files.{position-is, same-position}
 use Rattle.cell_theorems.proofs.Laws.Nodes.{Kept, frame-number, frame-station, frame-silent, frame-conveys, frame-keeps}
-use Rattle.cell_theorems.proofs.Laws.Matching.{Carries, Matches, left-carries}
-
--- the frame of a dispatch, and where it goes
-abbrev frameIn : Frame → Dispatch → Frame
-frameIn d Nothing = d
-frameIn d (Sent f to) = f
-
-abbrev toIn : ℕ → Dispatch → ℕ
-toIn d Nothing = d
-toIn d (Sent f to) = to
+use Rattle.cell_theorems.proofs.Laws.Matching.{Carries, Matches, left-carries, frame-same, from-inside, to-inside, to-address, from-is, to-is}
 
 module _ (file : List ℕ) (c c′ : Cell) (b : Bench) (m : Matches file c b) (s : HandedOn file c c′) where
   abbrev q : Quiet (retries file) b
@@ -59,29 +50,8 @@ module _ (file : List ℕ) (c c′ : Cell) (b : Bench) (m : Matches file c b) (s
   inside : (p : ℕ) → p < members file → p < b .n
   inside p h = omega (arith, m .size)
 
-  from-member : b .wire .from < members file
-  from-member = omega (arith, m .size, q .picture .sender-member)
-
-  to-member : q .to < members file
-  to-member = omega (arith, m .size, q .picture .addressee-member)
-
-  frame-same : w .frame ≡ f
-  frame-same = ap (frameIn f) (sym (w .frame-is) ∙ q .on-wire)
-
-  to-same : w .to ≡ to
-  to-same = ap (toIn to) (sym (w .frame-is) ∙ q .on-wire)
-
   on-wire : OnWire (ringOf file) f (w .information) (c .wire .octets)
-  on-wire = subst (λ (g : Frame). OnWire (ringOf file) g (w .information) (c .wire .octets)) frame-same (w .on-wire)
-
-  to-address : c .wire .to ≡ addressAt file to
-  to-address = w .to-address ∙ ap (addressAt file) to-same
-
-  from-is : position (ringOf file) (c .wire .from) ≡ from
-  from-is = ap (position (ringOf file)) (w .from-address) ∙ position-is file (m .good) from from-member
-
-  to-is : position (ringOf file) (c .wire .to) ≡ to
-  to-is = ap (position (ringOf file)) to-address ∙ position-is file (m .good) to to-member
+  on-wire = subst (λ (g : Frame). OnWire (ringOf file) g (w .information) (c .wire .octets)) (frame-same m) (w .on-wire)
 
   -- ---- who hears it
 
@@ -92,7 +62,7 @@ module _ (file : List ℕ) (c c′ : Cell) (b : Bench) (m : Matches file c b) (s
   away p o e = o (ap (addressAt file) e ∙ sym (w .from-address))
 
   back : (p : ℕ) → p < members file → (p ≡ b .wire .from → ⊥) → Another p
-  back p h o e = o (same-position file (m .good) p from h from-member (e ∙ w .from-address))
+  back p h o e = o (same-position file (m .good) p from h (from-inside m) (e ∙ w .from-address))
 
   heard-number : (p : ℕ) → p < members file → (p ≡ b .wire .from → ⊥) → frameRule (stationAt b p) f from to .number ≡ 0
   heard-number p h o = go (role from to p)
@@ -113,21 +83,21 @@ module _ (file : List ℕ) (c c′ : Cell) (b : Bench) (m : Matches file c b) (s
     zero = ap (λ (a : Answer). a .number) rule-is ∙ heard-number p h (away p o)
 
     call-number : s .calls p h o .number ≡ 0
-    call-number = frame-number (m .kept p h) (c .wire) (w .octets) f (w .information) on-wire from to from-is to-is call ∙ zero
+    call-number = frame-number (m .kept p h) (c .wire) (w .octets) f (w .information) on-wire from to (from-is m) (to-is m) call ∙ zero
 
     call-keeps : Kept file (c′ .node p)
-    call-keeps = frame-keeps (m .kept p h) (c .wire) (w .octets) f (w .information) on-wire from to from-is to-is call
+    call-keeps = frame-keeps (m .kept p h) (c .wire) (w .octets) f (w .information) on-wire from to (from-is m) (to-is m) call
 
     call-station : stationIn (c′ .node p .rec) ≡ stationAt (step b) p
     call-station =
-        frame-station (m .kept p h) (c .wire) (w .octets) f (w .information) on-wire from to from-is to-is call zero
+        frame-station (m .kept p h) (c .wire) (w .octets) f (w .information) on-wire from to (from-is m) (to-is m) call zero
         ∙ ap (λ (a : Answer). a .station) rule-is
         ∙ sym (hears-there b q p (inside p h) (away p o))
         ∙ ap (λ (x : Bench). stationAt x p) (sym (step-delivers b q))
 
     call-silent : (p ≡ q .to → ⊥) → getD (s .calls p h o .told) 0 0 ≡ 0
     call-silent x =
-        frame-silent (m .kept p h) (c .wire) (w .octets) f (w .information) on-wire from to from-is to-is call zero
+        frame-silent (m .kept p h) (c .wire) (w .octets) f (w .information) on-wire from to (from-is m) (to-is m) call zero
         (ap (λ (a : Answer). a .sent) rule-is ∙ silent-at (q .picture) p (inside p h) (away p o) x .sent)
 
   sender-station : (p : ℕ) (h : p < members file) → p ≡ b .wire .from → stationIn (c′ .node p .rec) ≡ stationAt (step b) p
@@ -142,17 +112,17 @@ module _ (file : List ℕ) (c c′ : Cell) (b : Bench) (m : Matches file c b) (s
   -- ---- what is on the wire then
 
   addressee-another : addressAt file (q .to) ≡ c .wire .from → ⊥
-  addressee-another = back to to-member (q .picture .another)
+  addressee-another = back to (to-inside m) (q .picture .another)
 
   next-wire : Carries file (c′ .wire) (step b .wire)
   next-wire =
       let o = addressee-another in
-      let k = frame-conveys (m .kept to to-member) (c .wire) (w .octets) f (w .information) on-wire from to from-is to-is (call to to-member o) (zero to to-member o)
-      (reply-in b q .frame) (reply-in b q .to) (ap (λ (a : Answer). a .sent) (rule-is to to-member o) ∙ new-sent (q .picture)) in
-      subst (λ (x : Transit). Carries file x (step b .wire)) (sym (s .answers to to-member o (sym to-address)))
-      (subst (Carries file (left (addressAt file to) (s .calls to to-member o .out) (s .calls to to-member o .told))) (sym (step-wire b q))
-      (left-carries file (c .node to .store) (m .kept to to-member .store-octets) to (reply-in b q .frame) (reply-in b q .to) (s .calls to to-member o .out)
-      (s .calls to to-member o .told) k))
+      let k = frame-conveys (m .kept to (to-inside m)) (c .wire) (w .octets) f (w .information) on-wire from to (from-is m) (to-is m) (call to (to-inside m) o) (zero to (to-inside m) o)
+      (reply-in b q .frame) (reply-in b q .to) (ap (λ (a : Answer). a .sent) (rule-is to (to-inside m) o) ∙ new-sent (q .picture)) in
+      subst (λ (x : Transit). Carries file x (step b .wire)) (sym (s .answers to (to-inside m) o (sym (to-address m))))
+      (subst (Carries file (left (addressAt file to) (s .calls to (to-inside m) o .out) (s .calls to (to-inside m) o .told))) (sym (step-wire b q))
+      (left-carries file (c .node to .store) (m .kept to (to-inside m) .store-octets) to (reply-in b q .frame) (reply-in b q .to) (s .calls to (to-inside m) o .out)
+      (s .calls to (to-inside m) o .told) k))
 
   pub step-matches : Matches file c′ (step b)
   unfolding afterEvent
@@ -180,8 +150,8 @@ module _ (file : List ℕ) (c c′ : Cell) (b : Bench) (m : Matches file c b) (s
       record {
         number = call-number;
         addressee = to;
-        addressee-member = to-member;
-        addressed = sym to-address;
+        addressee-member = to-inside m;
+        addressed = sym (to-address m);
         another = addressee-another;
         silent = call-silent;
       }
