@@ -11,3 +11,4 @@ pub mod Queues
 pub mod Rows
 pub mod Runs
 pub mod Waiting
+pub mod Outcomes

@@ -3,3 +3,4 @@ pub mod AsBench
 pub mod NoneRefused
 pub mod RowsComposed
 pub mod Bound
+pub mod Tight

@@ -1,10 +1,12 @@
 -- Demand 3 of a cell: how many packets are composed, from the acceptance of a message on, until its own is on the wire.
-use Prim.Native.Nat.{ℕ, suc, _+_, _*_, _<_, _≤_}
+use Prim.Native.Nat.{ℕ, zero, suc, _+_, _-_, _*_, _<_, _≤_}
 use mathlib.Core.Path.{_≡_}
 use mathlib.Core.Bool.{Bool, true, false, _&&_}
 use mathlib.Core.List.{List, [], _∷_, List·Memᴰ}
 use lib.Dec.{eqb}
 use lib.ListN.{length}
+use Rattle.codec.specs.Octets.{zeros}
+use Rattle.codec.specs.Sizes.{mostInformation}
 use Rattle.parts.specs.Choose.{pick}
 use Rattle.parts.specs.Messages.{all, flies, lowestFree}
 use Rattle.parts.specs.Frames.{flight}
@@ -12,7 +14,7 @@ use Rattle.station.specs.Stations.{awaitedOf}
 use Rattle.parts.specs.declared.list.Message.{Message}
 use Rattle.shell.specs.Calls.{stationIn}
 use Rattle.waiting.specs.Waiting.{Spot, Until, shorts, informations, octetsOnWire}
-use Rattle.cell_theorems.specs.Cell.{Node, Transit, Cell, members, addressAt, Asking, Act, handed, asked, Run, done, hand-on, ask}
+use Rattle.cell_theorems.specs.Cell.{Node, Transit, Cell, members, addressAt, Asking, QueueCall, Act, handed, asked, Run, done, hand-on, ask}
 use Rattle.cell_theorems.specs.AsBench.{rows}
 
 -- ---- the message: the node that accepted it, and the place that it got in its record
@@ -75,10 +77,36 @@ pub record BoundIn (file : List ℕ) (x : Spot) {c : Cell} {acts : List Act} {c�
   -- its own is composed, once so many packets are
   pub it-goes : 2 * members file + 3 ≤ stepsOf acts → goesIn x r ≡ true
 
--- a run that reaches both figures
+-- ---- its tightness
+
+-- both figures are reached
 pub record ReachesIn (file : List ℕ) (x : Spot) {c : Cell} {acts : List Act} {c′ : Cell} (r : Run file c acts c′) : Type 0 where
   pub goes-in-it : goesIn x r ≡ true
   pub short-packets : shorts (rows file (beforeIn x r)) ≡ 2 * members file + 1
   pub information-packets : informations (rows file (beforeIn x r)) ≡ 1
   pub octets : octetsOnWire (rows file (beforeIn x r)) ≡ (2 * members file + 1) * 72 + 1526
   pub which : length (beforeIn x r) + 1 ≡ 2 * members file + 3
+
+-- k steps
+unfoldable pub handings : ℕ → List Act
+handings zero = []
+handings (suc k) = handed ∷ handings k
+
+-- the message and the foreign one are for member 1: one of no octets, one as long as one can be, queued at the last node
+abbrev pub itsAsking : List ℕ → Asking
+itsAsking file = record { at = 0; to = addressAt file 1; priority = 9; channel = 0; payload = [] }
+
+abbrev pub foreignAsking : List ℕ → Asking
+foreignAsking file = record { at = members file - 1; to = addressAt file 1; priority = 5; channel = 0; payload = zeros mostInformation }
+
+-- from a started cell: the foreign message is queued, then the message is accepted, which stays on top, and the bound is reached
+pub record TightFrom (file : List ℕ) (c₀ : Cell) : Type 0 where
+  pub c : Cell
+  pub foreign-queued : Run file c₀ (asked (foreignAsking file) ∷ []) c
+  pub c₁ : Cell
+  pub call : QueueCall file (itsAsking file) c c₁
+  pub accepted : call .number ≡ 0
+  pub c₂ : Cell
+  pub run : Run file c₁ (handings (2 * members file + 3)) c₂
+  pub stays : StaysOnTopIn (spotIn c 0) 9 run
+  pub reaches : ReachesIn file (spotIn c 0) run
