@@ -11,4 +11,5 @@ pub mod Queues
 pub mod Rows
 pub mod Runs
 pub mod Waiting
+pub mod Own
 pub mod Outcomes

@@ -7,12 +7,14 @@ use lib.Dec.{eqb}
 use lib.ListN.{length}
 use Rattle.codec.specs.Octets.{zeros}
 use Rattle.codec.specs.Sizes.{mostInformation}
+use Rattle.packet_codec.specs.Packet.{information, informationIn, readPacket}
+use Rattle.packet_codec.specs.declared.reading.Read.the-variants.{Good}
 use Rattle.parts.specs.Choose.{pick}
 use Rattle.parts.specs.Messages.{all, flies, lowestFree}
 use Rattle.parts.specs.Frames.{flight}
 use Rattle.station.specs.Stations.{awaitedOf}
 use Rattle.parts.specs.declared.list.Message.{Message}
-use Rattle.shell.specs.Calls.{stationIn}
+use Rattle.shell.specs.Calls.{ringOf, stationIn}
 use Rattle.waiting.specs.Waiting.{Spot, Until, shorts, informations, octetsOnWire}
 use Rattle.cell_theorems.specs.Cell.{Node, Transit, Cell, members, addressAt, Asking, QueueCall, Act, handed, asked, Run, done, hand-on, ask}
 use Rattle.cell_theorems.specs.AsBench.{rows}
@@ -60,6 +62,26 @@ StaysOnTopIn {file} x priority (hand-on c c₁ c′ acts h r) =
     OnTopIn file x priority c × Until (ownIn file x c₁) (StaysOnTopIn x priority r)
 StaysOnTopIn {file} x priority (ask c c₁ c′ a acts q r) = OnTopIn file x priority c × StaysOnTopIn x priority r
 
+-- ---- what goes
+
+-- the packet of the message that was asked for: from its node to that address, of its priority and channel, with its payload
+pub record ItsPacket (file : List ℕ) (a : Asking) (w : Transit) : Type 0 where
+  pub from-node : w .from ≡ addressAt file (a .at)
+  pub to-asked : w .to ≡ a .to
+  pub number : ℕ
+  pub reads : readPacket (ringOf file) (w .octets) ≡ Good (information (a .priority) number (a .channel) (length (a .payload)))
+  pub payload : informationIn (w .octets) (length (a .payload)) ≡ a .payload
+
+abbrev pub Either : Bool → Type 0 → Type 0 → Type 0
+Either true now later = now
+Either false now later = later
+
+-- its own, once it is composed, is that packet
+unfoldable pub OwnIs : {file : List ℕ} {c : Cell} {acts : List Act} {c′ : Cell} → Spot → Asking → Run file c acts c′ → Type 0
+OwnIs x a (done c) = Unit {0}
+OwnIs {file} x a (hand-on c c₁ c′ acts h r) = Either (ownIn file x c₁) (ItsPacket file a (c₁ .wire)) (OwnIs x a r)
+OwnIs x a (ask c c₁ c′ a′ acts q r) = OwnIs x a r
+
 -- ---- the bound, of a run after the acceptance
 
 -- how many of the acts are steps
@@ -68,7 +90,7 @@ stepsOf [] = 0
 stepsOf (handed ∷ acts) = suc (stepsOf acts)
 stepsOf (asked a ∷ acts) = stepsOf acts
 
-pub record BoundIn (file : List ℕ) (x : Spot) {c : Cell} {acts : List Act} {c′ : Cell} (r : Run file c acts c′) : Type 0 where
+pub record BoundIn (file : List ℕ) (x : Spot) (a : Asking) {c : Cell} {acts : List Act} {c′ : Cell} (r : Run file c acts c′) : Type 0 where
   pub short-packets : shorts (rows file (beforeIn x r)) ≤ 2 * members file + 1
   pub information-packets : informations (rows file (beforeIn x r)) ≤ 1
   pub octets : octetsOnWire (rows file (beforeIn x r)) ≤ (2 * members file + 1) * 72 + 1526
@@ -76,6 +98,7 @@ pub record BoundIn (file : List ℕ) (x : Spot) {c : Cell} {acts : List Act} {c�
   pub not-later : length (beforeIn x r) + 1 ≤ 2 * members file + 3
   -- its own is composed, once so many packets are
   pub it-goes : 2 * members file + 3 ≤ stepsOf acts → goesIn x r ≡ true
+  pub own-is : OwnIs x a r
 
 -- ---- its tightness
 

@@ -21,13 +21,12 @@ use Rattle.cell_theorems.proofs.Laws.Octets.{packet-octets, carried-oct
 use Rattle.cell_theorems.proofs.Laws.Files.{position-is}
 use Rattle.cell_theorems.proofs.Laws.Nodes.{Kept}
 
--- the packet on the wire is that of the bench's frame, with some information
-pub record Carries (file : List ℕ) (w : Transit) (v : Wire) : Type 0 where
+-- the packet on the wire is that of the bench's frame, with the information that a store had for it
+pub record Carries (file store : List ℕ) (w : Transit) (v : Wire) : Type 0 where
   pub frame : Frame
   pub to : ℕ
   pub frame-is : v .sent ≡ Sent frame to
-  pub information : List ℕ
-  pub on-wire : OnWire (ringOf file) frame information (w .octets)
+  pub on-wire : OnWire (ringOf file) frame (carriedIn store frame) (w .octets)
   pub from-address : w .from ≡ addressAt file (v .from)
   pub to-address : w .to ≡ addressAt file to
   pub octets : Octets (w .octets)
@@ -38,14 +37,16 @@ pub record Matches (file : List ℕ) (c : Cell) (b : Bench) : Type 0 where
   pub quiet : Quiet (retries file) b
   pub kept : (p : ℕ) → p < members file → Kept file (c .node p)
   pub stations : (p : ℕ) → p < members file → stationIn (c .node p .rec) ≡ stationAt b p
-  pub wire : Carries file (c .wire) (b .wire)
+  -- the store that the packet was composed of, and the packet
+  pub store : List ℕ
+  pub wire : Carries file store (c .wire) (b .wire)
 
 -- the frame of a dispatch, and where it goes
-abbrev frameIn : Frame → Dispatch → Frame
+abbrev pub frameIn : Frame → Dispatch → Frame
 frameIn d Nothing = d
 frameIn d (Sent f to) = f
 
-abbrev toIn : ℕ → Dispatch → ℕ
+abbrev pub toIn : ℕ → Dispatch → ℕ
 toIn d Nothing = d
 toIn d (Sent f to) = to
 
@@ -58,7 +59,7 @@ module _ {file : List ℕ} {c : Cell} {b : Bench} (m : Matches file c b) where
         frame = w .frame;
         to = w .to;
         frame-is = w .frame-is;
-        information = w .information;
+        information = carriedIn (m .store) (w .frame);
         on-wire = w .on-wire;
         from-address = w .from-address;
         to-address = w .to-address;
@@ -89,13 +90,12 @@ module _ {file : List ℕ} {c : Cell} {b : Bench} (m : Matches file c b) where
 
 -- what a call leaves that sends f
 pub left-carries : (file store : List ℕ) → Octets store → (p : ℕ) (f : Frame) (to : ℕ) (out told : List ℕ) → Conveyed (ringOf file) store f to out told
-    → Carries file (left (addressAt file p) out told) (record { from = p; sent = Sent f to })
+    → Carries file store (left (addressAt file p) out told) (record { from = p; sent = Sent f to })
 left-carries file store o p f to out told k =
     record {
       frame = f;
       to = to;
       frame-is = refl;
-      information = carriedIn store f;
       on-wire = k .on-wire;
       from-address = refl;
       to-address = k .told-address;

@@ -82,7 +82,8 @@ module _ (file : List ℕ) (c c′ : Cell) (b : Bench) (m : Matches file c b) (a
         quiet = quiet-queue b (m .quiet) p q;
         kept = λ i h. kept-at i h (eqb i p) refl;
         stations = λ i h. station-at i h (eqb i p) refl;
-        wire = subst (Carries file (c′ .wire)) (sym (queue-wire b p q)) (subst (λ (x : Transit). Carries file x (b .wire)) (sym (s .wire-stays)) (m .wire));
+        store = m .store;
+        wire = subst (Carries file (m .store) (c′ .wire)) (sym (queue-wire b p q)) (subst (λ (x : Transit). Carries file (m .store) x (b .wire)) (sym (s .wire-stays)) (m .wire));
       }
     where
       kept-at : (i : ℕ) → i < members file → (t : Bool) → eqb i (a .at) ≡ t → Kept file (c′ .node i)

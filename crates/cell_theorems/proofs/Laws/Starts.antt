@@ -23,14 +23,14 @@ module _ (file : List ℕ) (c : Cell) (s : Started file c) where
   zeroth : 0 < members file
   zeroth = let t = two file (s .good) in omega (arith, t)
 
-  first-carries : Carries file (c .wire) (ringWith (members file) (retries file) .wire)
+  first-carries : Carries file (c .node 0 .store) (c .wire) (ringWith (members file) (retries file) .wire)
   first-carries =
       let g = s .good in
       let b : Begun file 0 (c .node 0) = s .begun 0 zeroth in
       let k = begun-conveys file g 0 zeroth (c .node 0) b firstFrame (after (members file) 0)
       (first-sent (members file) (retries file) (two file g) (most file g)) in
-      subst (λ (w : Transit). Carries file w (ringWith (members file) (retries file) .wire)) (sym (s .first zeroth))
-      (subst (Carries file (left (addressAt file 0) (b .out) (b .told)))
+      subst (λ (w : Transit). Carries file (c .node 0 .store) w (ringWith (members file) (retries file) .wire)) (sym (s .first zeroth))
+      (subst (Carries file (c .node 0 .store) (left (addressAt file 0) (b .out) (b .told)))
       (sym (first-wire (members file) (retries file) (two file g) (most file g) (low file g) (high file g)))
       (left-carries file (c .node 0 .store) (b .store-octets) 0 firstFrame (after (members file) 0) (b .out) (b .told) k))
 
@@ -44,6 +44,7 @@ module _ (file : List ℕ) (c : Cell) (s : Started file c) where
         kept = λ p h. begun-keeps file g p h (c .node p) (s .begun p h);
         stations = λ p h.
             begun-station file g p h (c .node p) (s .begun p h) ∙ sym (ring-at (members file) (retries file) (two file g) (most file g) p h);
+        store = c .node 0 .store;
         wire = first-carries;
       }
 

@@ -15,6 +15,7 @@ use Rattle.station.specs.Heard.{frameRule}
 use Rattle.station.specs.declared.station.Station.{Station}
 use Rattle.station.specs.declared.station.Answer.{Answer}
 use Rattle.shell.specs.Calls.{ringOf, stationIn}
+use Rattle.shell.specs.Places.{carriedIn}
 use Rattle.wire_theorems.specs.Wire.{OnWire}
 use Rattle.bench.specs.Ring.{stationAt}
 use Rattle.bench.specs.Delivery.{deliver, step}
@@ -35,7 +36,7 @@ module _ (file : List ℕ) (c c′ : Cell) (b : Bench) (m : Matches file c b) (s
   abbrev q : Quiet (retries file) b
   q = m .quiet
 
-  abbrev w : Carries file (c .wire) (b .wire)
+  abbrev w : Carries file (m .store) (c .wire) (b .wire)
   w = m .wire
 
   abbrev f : Frame
@@ -50,8 +51,11 @@ module _ (file : List ℕ) (c c′ : Cell) (b : Bench) (m : Matches file c b) (s
   inside : (p : ℕ) → p < members file → p < b .n
   inside p h = omega (arith, m .size)
 
-  on-wire : OnWire (ringOf file) f (w .information) (c .wire .octets)
-  on-wire = subst (λ (g : Frame). OnWire (ringOf file) g (w .information) (c .wire .octets)) (frame-same m) (w .on-wire)
+  abbrev info : List ℕ
+  info = carriedIn (m .store) (q .frame)
+
+  on-wire : OnWire (ringOf file) f info (c .wire .octets)
+  on-wire = subst (λ (g : Frame). OnWire (ringOf file) g (carriedIn (m .store) g) (c .wire .octets)) (frame-same m) (w .on-wire)
 
   -- ---- who hears it
 
@@ -83,21 +87,21 @@ module _ (file : List ℕ) (c c′ : Cell) (b : Bench) (m : Matches file c b) (s
     zero = ap (λ (a : Answer). a .number) rule-is ∙ heard-number p h (away p o)
 
     call-number : s .calls p h o .number ≡ 0
-    call-number = frame-number (m .kept p h) (c .wire) (w .octets) f (w .information) on-wire from to (from-is m) (to-is m) call ∙ zero
+    call-number = frame-number (m .kept p h) (c .wire) (w .octets) f info on-wire from to (from-is m) (to-is m) call ∙ zero
 
     call-keeps : Kept file (c′ .node p)
-    call-keeps = frame-keeps (m .kept p h) (c .wire) (w .octets) f (w .information) on-wire from to (from-is m) (to-is m) call
+    call-keeps = frame-keeps (m .kept p h) (c .wire) (w .octets) f info on-wire from to (from-is m) (to-is m) call
 
     call-station : stationIn (c′ .node p .rec) ≡ stationAt (step b) p
     call-station =
-        frame-station (m .kept p h) (c .wire) (w .octets) f (w .information) on-wire from to (from-is m) (to-is m) call zero
+        frame-station (m .kept p h) (c .wire) (w .octets) f info on-wire from to (from-is m) (to-is m) call zero
         ∙ ap (λ (a : Answer). a .station) rule-is
         ∙ sym (hears-there b q p (inside p h) (away p o))
         ∙ ap (λ (x : Bench). stationAt x p) (sym (step-delivers b q))
 
     call-silent : (p ≡ q .to → ⊥) → getD (s .calls p h o .told) 0 0 ≡ 0
     call-silent x =
-        frame-silent (m .kept p h) (c .wire) (w .octets) f (w .information) on-wire from to (from-is m) (to-is m) call zero
+        frame-silent (m .kept p h) (c .wire) (w .octets) f info on-wire from to (from-is m) (to-is m) call zero
         (ap (λ (a : Answer). a .sent) rule-is ∙ silent-at (q .picture) p (inside p h) (away p o) x .sent)
 
   sender-station : (p : ℕ) (h : p < members file) → p ≡ b .wire .from → stationIn (c′ .node p .rec) ≡ stationAt (step b) p
@@ -114,13 +118,13 @@ module _ (file : List ℕ) (c c′ : Cell) (b : Bench) (m : Matches file c b) (s
   addressee-another : addressAt file (q .to) ≡ c .wire .from → ⊥
   addressee-another = back to (to-inside m) (q .picture .another)
 
-  next-wire : Carries file (c′ .wire) (step b .wire)
+  next-wire : Carries file (c .node (q .to) .store) (c′ .wire) (step b .wire)
   next-wire =
       let o = addressee-another in
-      let k = frame-conveys (m .kept to (to-inside m)) (c .wire) (w .octets) f (w .information) on-wire from to (from-is m) (to-is m) (call to (to-inside m) o) (zero to (to-inside m) o)
+      let k = frame-conveys (m .kept to (to-inside m)) (c .wire) (w .octets) f info on-wire from to (from-is m) (to-is m) (call to (to-inside m) o) (zero to (to-inside m) o)
       (reply-in b q .frame) (reply-in b q .to) (ap (λ (a : Answer). a .sent) (rule-is to (to-inside m) o) ∙ new-sent (q .picture)) in
-      subst (λ (x : Transit). Carries file x (step b .wire)) (sym (s .answers to (to-inside m) o (sym (to-address m))))
-      (subst (Carries file (left (addressAt file to) (s .calls to (to-inside m) o .out) (s .calls to (to-inside m) o .told))) (sym (step-wire b q))
+      subst (λ (x : Transit). Carries file (c .node to .store) x (step b .wire)) (sym (s .answers to (to-inside m) o (sym (to-address m))))
+      (subst (Carries file (c .node to .store) (left (addressAt file to) (s .calls to (to-inside m) o .out) (s .calls to (to-inside m) o .told))) (sym (step-wire b q))
       (left-carries file (c .node to .store) (m .kept to (to-inside m) .store-octets) to (reply-in b q .frame) (reply-in b q .to) (s .calls to (to-inside m) o .out)
       (s .calls to (to-inside m) o .told) k))
 
@@ -133,6 +137,7 @@ module _ (file : List ℕ) (c c′ : Cell) (b : Bench) (m : Matches file c b) (s
         quiet = quiet-step b q;
         kept = λ p h. kept-at p h (eqb p from) refl;
         stations = λ p h. station-at p h (eqb p from) refl;
+        store = c .node to .store;
         wire = next-wire;
       }
     where
@@ -144,6 +149,11 @@ module _ (file : List ℕ) (c c′ : Cell) (b : Bench) (m : Matches file c b) (s
       station-at : (p : ℕ) → p < members file → (t : Bool) → eqb p (b .wire .from) ≡ t → stationIn (c′ .node p .rec) ≡ stationAt (step b) p
       station-at p h true e = sender-station p h (eqb-true p from e)
       station-at p h false e = call-station p h (back p h (eqb-false p from e))
+
+  -- composed of the addressee's store
+  pub step-store : step-matches .store ≡ c .node (m .quiet .to) .store
+  unfolding step-matches
+  step-store = refl
 
   pub step-done : StepDone file c c′ s
   step-done =

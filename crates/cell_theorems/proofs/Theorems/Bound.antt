@@ -8,6 +8,11 @@ use Prim.Native.Nat.{ℕ, _+_, _*_, _<_, _≤_}
 use native.Mathlib.Omega.{arith}
 use lib.ListN.{length}
 use Rattle.station.specs.Queue.{newMessage}
+use Rattle.station.specs.declared.station.Station.{Station}
+use Rattle.parts.specs.declared.request.Request.{Request}
+use Rattle.shell.specs.Calls.{ringIn, stationIn, requestOf, Queueing}
+use Rattle.wire_theorems.specs.Store.{ToSend, sendPayload}
+use Rattle.wire_theorems.proofs.Theorems.QueuedCarried.{queue-puts}
 use Rattle.bench.specs.Ring.{stationAt}
 use Rattle.bench.specs.Calls.{queue}
 use Rattle.bench.specs.Runs.{Event}
@@ -16,10 +21,12 @@ use Rattle.bench.specs.declared.rows.Row.{Row}
 use Rattle.parts.specs.declared.list.Message.{Message}
 use Rattle.waiting.specs.Waiting.{Spot, spotFor, before, goes, StaysOnTop, shorts, informations, octetsOnWire, Bound}
 use Rattle.waiting.proofs.Theorems.Bound.{bound}
-use Rattle.cell_theorems.specs.Cell.{Cell, members, retries, Started, Asking, QueueCall, Act, Run}
+use Rattle.cell_theorems.specs.Cell.{Node, Cell, members, retries, Started, Asking, QueueCall, Act, Run}
 use Rattle.cell_theorems.specs.AsBench.{events, benchAfter, requestIn, rows}
 use Rattle.cell_theorems.specs.Waiting.{spotIn, beforeIn, goesIn, StaysOnTopIn, stepsOf, BoundIn}
 use Rattle.cell_theorems.proofs.Laws.Files.{two, most, low, high}
+use Rattle.cell_theorems.proofs.Laws.Nodes.{kept-ring}
+use Rattle.cell_theorems.proofs.Laws.Own.{own-packet}
 use Rattle.cell_theorems.proofs.Laws.Matching.{Matches}
 use Rattle.cell_theorems.proofs.Laws.Queues.{call-number, queue-matches}
 use Rattle.cell_theorems.proofs.Laws.Waiting.{before-same, before-length, goes-same, stays-same, spot-same, steps-same}
@@ -33,36 +40,56 @@ module _
     abbrev b : Bench
     b = benchAfter file acts
 
-    matches : Matches file c (benchAfter file acts)
+    -- the bench and its message, once it is accepted
+    abbrev b₁ : Bench
+    b₁ = queue b (a .at) (requestIn file a) .bench
+
+    abbrev m : Message
+    m = newMessage (stationAt b (a .at)) (requestIn file a)
+
+    abbrev x : Spot
+    x = spotIn c (a .at)
+
+    matches : Matches file c b
     matches = reached-matches s r₀
 
-    later : Matches file c₁ (queue (benchAfter file acts) (a .at) (requestIn file a) .bench)
-    later = queue-matches file c c₁ (benchAfter file acts) matches a q
+    later : Matches file c₁ b₁
+    later = queue-matches file c c₁ b matches a q
 
-    x-is : spotIn c (a .at) ≡ spotFor (benchAfter file acts) (a .at)
-    x-is = spot-same matches (a .at) (q .member)
-
-    bench-bound : Bound (members file) (spotIn c (a .at)) (newMessage (stationAt (benchAfter file acts) (a .at)) (requestIn file a))
-        (queue (benchAfter file acts) (a .at) (requestIn file a) .bench) (events file after)
+    bench-bound : Bound (members file) x m b₁ (events file after)
     bench-bound =
         let g = s .good in
-        let t = stays-same file (spotIn c (a .at)) (q .member) (a .priority) later r stays in
-        let x : Spot = spotFor (benchAfter file acts) (a .at) in
-        subst (λ (x : Spot). Bound (members file) x (newMessage (stationAt (benchAfter file acts) (a .at)) (requestIn file a)) (queue (benchAfter file acts) (a .at) (requestIn file a) .bench) (events file after)) (sym x-is)
+        let x-is : x ≡ spotFor b (a .at) = spot-same matches (a .at) (q .member) in
+        let t = stays-same file x (q .member) (a .priority) later r stays in
+        subst (λ (y : Spot). Bound (members file) y m b₁ (events file after)) (sym x-is)
         (bound (members file) (retries file) (two file g) (most file g) (low file g) (high file g) (events file acts) (a .at) (requestIn file a)
-        (sym (call-number file c c₁ (benchAfter file acts) matches a q) ∙ accepted) (events file after)
-        (subst (λ (x : Spot). StaysOnTop x (a .priority) (queue (benchAfter file acts) (a .at) (requestIn file a) .bench) (events file after)) x-is t))
+        (sym (call-number file c c₁ b matches a q) ∙ accepted) (events file after)
+        (subst (λ (y : Spot). StaysOnTop y (a .priority) b₁ (events file after)) x-is t))
 
-    pub cell-bound : BoundIn file (spotIn c (a .at)) r
+    -- its payload is in the store of its node
+    put : ToSend m (c₁ .node (a .at) .rec) × (sendPayload (c₁ .node (a .at) .store) m ≡ a .payload)
+    put =
+        let k = matches .kept (a .at) (q .member) in
+        let node : Node = c .node (a .at) in
+        let after : Node = c₁ .node (a .at) in
+        let asks : Request = requestOf (ringIn (node .rec)) (a .to) (a .priority) (a .channel) (length (a .payload)) in
+        let call = subst (λ (n : ℕ). Queueing (node .rec) (node .store) asks (a .payload) n (after .rec) (after .store)) accepted (q .queues) in
+        let d = queue-puts (k .held) (node .store) asks (a .payload) (after .rec) (after .store) refl call in
+        let same : newMessage (stationIn (node .rec)) asks ≡ m =
+        ap (λ (y : Station). newMessage y asks) (matches .stations (a .at) (q .member))
+        ∙ ap (λ (ring : List ℕ). newMessage (stationAt b (a .at)) (requestOf ring (a .to) (a .priority) (a .channel) (length (a .payload)))) (kept-ring k) in
+        (subst (λ (y : Message). ToSend y (after .rec)) same (d .stands), ap (sendPayload (after .store)) (sym same) ∙ d .holds)
+
+    pub cell-bound : BoundIn file (spotIn c (a .at)) a r
     cell-bound =
-        let x : Spot = spotIn c (a .at) in
         let k = bench-bound .within in
-        let same : rows file (beforeIn x r) ≡ before x (queue (benchAfter file acts) (a .at) (requestIn file a) .bench) (events file after) =
-        before-same file x (q .member) later r in
+        let same : rows file (beforeIn x r) ≡ before x b₁ (events file after) = before-same file x (q .member) later r in
         record {
           short-packets = omega (arith, ap shorts same, k .short-frames);
           information-packets = omega (arith, ap informations same, k .information-frames);
           octets = omega (arith, ap octetsOnWire same, k .octets);
           not-later = omega (arith, before-length file x (q .member) later r, k .not-later);
           it-goes = λ l. goes-same file x (q .member) later r ∙ bench-bound .it-goes (omega (arith, steps-same file after));
+          own-is =
+              own-packet file x (q .member) a refl m refl later r (record { waits = bench-bound .waits-until; goes-as = bench-bound .own-frame }) (put .0) (put .1);
         }
