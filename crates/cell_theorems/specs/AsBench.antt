@@ -21,7 +21,7 @@ use Rattle.bench.specs.declared.rows.Kind.{Kind}
 use Rattle.bench.specs.declared.rows.Kind.the-variants.{T, G, I}
 use Rattle.bench.specs.declared.rows.Row.{Row}
 use Rattle.parts.specs.declared.request.Request.{Request}
-use Rattle.cell_theorems.specs.Cell.{Node, Transit, Cell, members, retries, addressAt, Started, HandedOn, Asking, QueueCall, Act, handed, asked}
+use Rattle.cell_theorems.specs.Cell.{Transit, Cell, members, retries, addressAt, Started, HandedOn, Asking, QueueCall, Act, handed, asked}
 
 -- ---- a run's events on the bench: a driver's `to` is an address, the bench's a position
 

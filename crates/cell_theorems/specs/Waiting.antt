@@ -16,7 +16,7 @@ use Rattle.station.specs.Stations.{awaitedOf}
 use Rattle.parts.specs.declared.list.Message.{Message}
 use Rattle.shell.specs.Calls.{ringOf, stationIn}
 use Rattle.waiting.specs.Waiting.{Spot, Until, shorts, informations, octetsOnWire}
-use Rattle.cell_theorems.specs.Cell.{Node, Transit, Cell, members, addressAt, Asking, QueueCall, Act, handed, asked, Run, done, hand-on, ask}
+use Rattle.cell_theorems.specs.Cell.{Transit, Cell, members, addressAt, Asking, QueueCall, Act, handed, asked, Run, done, hand-on, ask}
 use Rattle.cell_theorems.specs.AsBench.{rows}
 
 -- ---- the message: the node that accepted it, and the place that it got in its record

@@ -1,19 +1,16 @@
 -- The node at a position, made of the file and started: it holds what the bench's station there begins with. Assumes nothing.
-use mathlib.Core.Path.{_≡_, refl, sym, ap, subst, _∙_}
-use mathlib.Core.Bool.{Bool, true, false, cond}
-use mathlib.Core.List.{List, []}
-use Prim.Native.Nat.{ℕ, _<_, _≤_}
-use lib.ListN.{length, getD}
-use Rattle.codec.specs.Octets.{Octets}
-use Rattle.codec.specs.Ring.{readRing, position}
+use mathlib.Core.Path.{_≡_, refl, ap, subst, _∙_}
+use mathlib.Core.List.{List}
+use Prim.Native.Nat.{ℕ, _<_}
+use lib.ListN.{getD}
+use Rattle.codec.specs.Ring.{readRing}
 use Rattle.parts.specs.declared.frame.Frame.{Frame}
 use Rattle.parts.specs.declared.frame.Dispatch.the-variants.{Nothing, Sent}
 use Rattle.station.specs.Stations.{made}
 use Rattle.station.specs.Start.{startRule}
-use Rattle.station.specs.declared.station.Station.{Station}
 use Rattle.station.specs.declared.station.Answer.{Answer}
 use Rattle.shell.specs.Packets.{sentSize}
-use Rattle.shell.specs.Calls.{ringIn, ringOf, stationIn, madeFrom, startAnswer, Making, Starting}
+use Rattle.shell.specs.Calls.{ringIn, ringOf, stationIn, startAnswer, Making, Starting}
 use Rattle.shell_theorems.specs.Held.{Held, by-make, by-start}
 use Rattle.shell_theorems.proofs.Theorems.Held.{held-sure, made-reads, start-sure}
 use Rattle.wire_theorems.specs.Wire.{Conveyed, on-start}
@@ -21,7 +18,7 @@ use Rattle.wire_theorems.proofs.Laws.Rings.{ring-is}
 use Rattle.wire_theorems.proofs.Theorems.Conveyed.{sends-conveyed}
 use Rattle.bench.specs.Ring.{firstAnswer}
 use Rattle.bench_theorems.proofs.Theorems.NoneRefused.{no-start-refused}
-use Rattle.cell_theorems.specs.Cell.{Node, members, retries, addressAt, Lent, Begun as BegunNode}
+use Rattle.cell_theorems.specs.Cell.{Node, members, retries, addressAt, Begun as BegunNode}
 use Rattle.cell_theorems.proofs.Laws.Calls.{own-number, out-good}
 use Rattle.cell_theorems.proofs.Laws.Files.{two, most, low, high, position-is, makes}
 use Rattle.cell_theorems.proofs.Laws.Nodes.{Kept, kept-new, done-station}

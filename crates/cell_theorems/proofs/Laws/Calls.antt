@@ -1,11 +1,9 @@
 -- Laws of one call: its number where it was lent what it needs, and the heard frame, whose message's place no station looks at. Assumes nothing.
-use mathlib.Core.Path.{_≡_, refl, sym, ap, _∙_}
+use mathlib.Core.Path.{_≡_, refl}
 use mathlib.Core.Bool.{Bool, true, false}
 use mathlib.Core.List.{List}
 use Prim.Native.Nat.{ℕ, _≤_}
-use native.Mathlib.Omega.{arith}
 use borrow.Author.Tests.{eq-eqb, le-ltb}
-use lib.Dec.{eqb}
 use Rattle.packet_codec.specs.Packet.{longestPacket}
 use Rattle.parts.specs.Choose.{pick}
 use Rattle.parts.specs.declared.frame.Frame.{Frame}

@@ -1,11 +1,10 @@
 -- Laws of a good ring file: N from 2 to 64, R from 1 to 15, and each member's address at one position only. Assumes nothing.
-use mathlib.Core.Path.{_≡_, refl, sym, ap, _∙_}
+use mathlib.Core.Path.{_≡_, sym, ap, _∙_}
 use mathlib.Core.Bool.{true}
 use mathlib.Core.List.{List}
 use Prim.Native.Nat.{ℕ, _<_, _≤_}
 use native.Mathlib.Omega.{arith}
 use borrow.Author.Tests.{eq-eqb, lt-ltb}
-use lib.Dec.{eqb}
 use lib.ListN.{length, length-take}
 use Rattle.codec.specs.Ring.{readRing, position, isMember}
 use Rattle.codec.proofs.Laws.Ring.{few-members}
@@ -13,7 +12,6 @@ use Rattle.records.specs.Layout.{recordLength}
 use Rattle.shell.specs.Calls.{ringOf, makeNumber}
 use Rattle.shell.proofs.Laws.Calls.{length-filled}
 use Rattle.shell_theorems.proofs.Laws.MadeRecords.{limits}
-use Rattle.wire_theorems.specs.Wire.{GoodAddresses}
 use Rattle.wire_theorems.proofs.Laws.Addresses.{good-addresses}
 use Rattle.cell_theorems.specs.Cell.{members, retries, addressAt}
 

@@ -15,7 +15,7 @@ use Rattle.bench.specs.Ring.{stationAt}
 use Rattle.bench.specs.declared.ring.Wire.{Wire}
 use Rattle.bench.specs.declared.ring.Bench.{Bench}
 use Rattle.bench_theorems.specs.Quiet.{Quiet}
-use Rattle.cell_theorems.specs.Cell.{Node, Transit, Cell, members, retries, addressAt, left}
+use Rattle.cell_theorems.specs.Cell.{Transit, Cell, members, retries, addressAt, left}
 use Rattle.cell_theorems.specs.AsBench.{AsBench}
 use Rattle.cell_theorems.proofs.Laws.Octets.{packet-octets, carried-octets}
 use Rattle.cell_theorems.proofs.Laws.Files.{position-is}

@@ -1,9 +1,8 @@
 -- A node of a cell: what is kept of it from call to call, and what each call makes of it. Assumes nothing.
 use mathlib.Core.Path.{_≡_, refl, sym, ap, subst, _∙_}
 use mathlib.Core.Bool.{Bool, true, false, cond}
-use mathlib.Core.List.{List, []}
-use Prim.Native.Nat.{ℕ, _<_, _≤_}
-use native.Mathlib.Omega.{arith}
+use mathlib.Core.List.{List}
+use Prim.Native.Nat.{ℕ}
 use lib.Dec.{eqb}
 use borrow.Author.Tests.{eqb-true, eqb-false}
 use lib.ListN.{length, getD}
@@ -11,28 +10,26 @@ use Rattle.codec.specs.Octets.{Octets}
 use Rattle.codec.specs.Ring.{position}
 use Rattle.packet_codec.specs.Packet.{kept}
 use Rattle.parts.specs.declared.frame.Frame.{Frame}
-use Rattle.parts.specs.declared.frame.Dispatch.{Dispatch}
 use Rattle.parts.specs.declared.frame.Dispatch.the-variants.{Nothing, Sent}
 use Rattle.parts.specs.declared.request.Request.{Request}
 use Rattle.station.specs.Heard.{frameRule}
 use Rattle.station.specs.Queue.{queueRule}
-use Rattle.station.specs.declared.station.Station.{Station}
 use Rattle.station.specs.declared.station.Answer.{Answer}
 use Rattle.records.specs.Layout.{storeLength}
 use Rattle.shell.specs.Packets.{sentSize}
 use Rattle.shell.specs.Places.{received, queued}
-use Rattle.shell.specs.Calls.{ringIn, ringOf, stationIn, recordWith, badStore, badBuffers, heardInformation, frameAnswer, queueAnswer, Hearing, Queueing, Starting, startAnswer, badOut}
-use Rattle.shell_theorems.specs.Held.{Held, Sure, Keeps, by-start, by-frame, by-queue}
-use Rattle.shell_theorems.proofs.Theorems.Held.{held-sure, anew-reads, start-sure, frame-sure, queue-sure}
-use Rattle.wire_theorems.specs.Wire.{OnWire, Conveyed, Sends, on-start, on-frame, madeOf}
+use Rattle.shell.specs.Calls.{ringIn, ringOf, stationIn, recordWith, frameAnswer, Hearing, Queueing}
+use Rattle.shell_theorems.specs.Held.{Held, Sure, Keeps, by-frame, by-queue}
+use Rattle.shell_theorems.proofs.Theorems.Held.{held-sure, anew-reads, frame-sure, queue-sure}
+use Rattle.wire_theorems.specs.Wire.{OnWire, Conveyed, on-frame, madeOf}
 use Rattle.wire_theorems.proofs.Laws.Rings.{ring-is}
 use Rattle.wire_theorems.proofs.Laws.Laid.{length-put}
 use Rattle.wire_theorems.proofs.Theorems.Conveyed.{sends-conveyed, heard-as-sent}
 use Rattle.station.specs.declared.station.Payload.{Payload}
 use Rattle.station.specs.declared.station.Payload.the-variants.{NoPayload, Of}
-use Rattle.cell_theorems.specs.Cell.{Node, Transit, Lent, FrameCall}
+use Rattle.cell_theorems.specs.Cell.{Node, Transit, FrameCall}
 use Rattle.cell_theorems.proofs.Laws.Octets.{kept-octets, heard-octets, queued-octets}
-use Rattle.cell_theorems.proofs.Laws.Calls.{own-number, out-good, store-good, buffers-good, same-heard, refused-stays}
+use Rattle.cell_theorems.proofs.Laws.Calls.{own-number, store-good, buffers-good, same-heard, refused-stays}
 
 -- its record is in a driver's hands, and was made of the file; its store is of 47,744 octets
 pub record Kept (file : List ℕ) (node : Node) : Type 0 where

@@ -1,11 +1,10 @@
 -- Octets stay octets: what a call writes into a store, and the packet that it composes of a store. Assumes nothing.
-use mathlib.Core.Path.{_≡_, sym, ap, subst, _∙_}
 use mathlib.Core.Bool.{Bool, true, false, cond}
 use mathlib.Core.List.{List, [], _∷_, _++_}
-use Prim.Native.Nat.{ℕ, zero, suc, _+_, _-_, _*_, _/_, _%_, _^_, _<_}
+use Prim.Native.Nat.{ℕ, zero, suc, _+_, _-_, _*_}
 use native.Mathlib.Omega.{arith}
 use lib.Dec.{eqb, leb}
-use lib.ListN.{length, take, drop, getD}
+use lib.ListN.{length, take, drop}
 use Rattle.codec.specs.Octets.{Octets, octets, laid, zeros}
 use Rattle.codec.proofs.Laws.Octets.{octets-take, octets-drop}
 use Rattle.packet_codec.specs.Packet.{packetOctets, startOctets, addressesOctets, headOctets, shortPacket, informationIn, kept}

@@ -1,8 +1,7 @@
 -- Each call has an outcome: its contract says what it leaves. So a cell of any good ring file starts, and runs on. Assumes nothing.
 use mathlib.Core.Path.{_≡_, refl, sym, ap, subst, _∙_}
-use mathlib.Core.Bool.{Bool, true, false}
-use mathlib.Core.List.{List, [], _∷_}
-use Prim.Native.Nat.{ℕ, zero, suc, _<_, _≤_}
+use mathlib.Core.List.{List, []}
+use Prim.Native.Nat.{ℕ, zero, suc, _<_}
 use native.Mathlib.Omega.{arith}
 use lib.Dec.{eqb}
 use borrow.Author.Tests.{eq-eqb, ne-eqb}
@@ -20,8 +19,8 @@ use Rattle.records.specs.Record.{recordOctets}
 use Rattle.shell.specs.Packets.{sentOctets}
 use Rattle.shell.specs.Places.{informationOf, queued}
 use Rattle.shell.specs.Telling.{toldOf}
-use Rattle.shell.specs.Calls.{ringOf, ringIn, callNumber, badOut, badStore, badBuffers, recordWith, makeNumber, madeFrom, startAnswer, frameAnswer, queueAnswer, storeHeard, requestOf, Making, Sending, Starting, Hearing, Queueing}
-use Rattle.cell_theorems.specs.Cell.{Node, Transit, Cell, members, addressAt, toldNumbers, Lent, left, Begun, Started, FrameCall, HandedOn, Asking, QueueCall, Run, done, hand-on}
+use Rattle.shell.specs.Calls.{ringOf, ringIn, callNumber, badOut, badStore, badBuffers, recordWith, makeNumber, madeFrom, startAnswer, frameAnswer, queueAnswer, storeHeard, requestOf, Making, Sending, Hearing, Queueing}
+use Rattle.cell_theorems.specs.Cell.{Node, Transit, Cell, members, addressAt, toldNumbers, Lent, left, Begun, Started, HandedOn, Asking, QueueCall, Run, done, hand-on}
 use Rattle.cell_theorems.specs.Waiting.{handings}
 use Rattle.cell_theorems.proofs.Laws.Octets.{zeros-octets}
 use Rattle.cell_theorems.proofs.Laws.Files.{position-is}

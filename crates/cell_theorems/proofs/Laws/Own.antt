@@ -2,31 +2,27 @@
 use mathlib.Core.Path.{_≡_, refl, sym, ap, subst, _∙_}
 use mathlib.Core.Bool.{Bool, true, false, cond}
 use mathlib.Core.List.{List, [], _∷_, _++_, List·Memᴰ}
-use Prim.Native.Nat.{ℕ, zero, suc, _<_}
+use Prim.Native.Nat.{ℕ, suc, _<_}
 use native.Mathlib.Omega.{arith}
 use lib.Dec.{eqb}
 use borrow.Author.Tests.{eqb-true, eqb-false}
 use lib.ListN.{length, getD}
 use Rattle.codec.specs.Ring.{position}
-use Rattle.packet_codec.specs.Packet.{information, informationIn, informationPart, readPacket}
-use Rattle.packet_codec.specs.declared.reading.Read.{Read}
+use Rattle.packet_codec.specs.Packet.{information, informationIn}
 use Rattle.packet_codec.specs.declared.reading.Read.the-variants.{Good}
 use Rattle.parts.specs.Messages.{all, messageFor}
 use Rattle.parts.specs.declared.list.Message.{Message}
 use Rattle.parts.specs.declared.frame.Frame.{Frame}
 use Rattle.parts.specs.declared.frame.Frame.the-variants.{Information}
-use Rattle.parts.specs.declared.frame.Dispatch.{Dispatch}
-use Rattle.parts.specs.declared.frame.Dispatch.the-variants.{Nothing, Sent}
 use Rattle.parts.specs.declared.request.Request.{Request}
 use Rattle.plain_rules.specs.Round.{carrying, informationOf}
 use Rattle.station.specs.declared.station.Station.{Station}
 use Rattle.shell.specs.Packets.{packetOf}
 use Rattle.shell.specs.Places.{carriedIn}
-use Rattle.shell.specs.Calls.{ringOf, ringIn, stationIn, requestOf}
+use Rattle.shell.specs.Calls.{ringOf}
 use Rattle.wire_theorems.specs.Wire.{OnWire}
 use Rattle.wire_theorems.specs.Store.{ToSend, sendPayload, by-frame, by-queue}
 use Rattle.wire_theorems.proofs.Theorems.PayloadsStay.{payloads-stay}
-use Rattle.bench.specs.Ring.{stationAt}
 use Rattle.bench.specs.Calls.{queue}
 use Rattle.bench.specs.Delivery.{step}
 use Rattle.bench.specs.Runs.{Event, stepped, queued, afterEvent, final}
@@ -35,11 +31,11 @@ use Rattle.bench.specs.declared.ring.Bench.{Bench}
 use Rattle.bench_theorems.proofs.Laws.Delivering.{step-wire}
 use Rattle.waiting.specs.Waiting.{Spot, own, goes, Waits}
 use Rattle.waiting.proofs.Laws.Own.{goes-another}
-use Rattle.cell_theorems.specs.Cell.{Node, Transit, Cell, members, addressAt, HandedOn, Asking, QueueCall, Act, Run, done, hand-on, ask}
+use Rattle.cell_theorems.specs.Cell.{Node, Cell, members, addressAt, HandedOn, Asking, QueueCall, Act, Run, done, hand-on, ask}
 use Rattle.cell_theorems.specs.AsBench.{events, requestIn}
 use Rattle.cell_theorems.specs.Waiting.{ownIn, ItsPacket, Either, OwnIs}
 use Rattle.cell_theorems.proofs.Laws.Files.{ring-long}
-use Rattle.cell_theorems.proofs.Laws.Matching.{Carries, Matches, frameIn, toIn, to-same, to-inside}
+use Rattle.cell_theorems.proofs.Laws.Matching.{Matches, frameIn, toIn, to-same, to-inside}
 use Rattle.cell_theorems.proofs.Laws.Steps.{step-matches, step-store}
 use Rattle.cell_theorems.proofs.Laws.Queues.{queue-matches}
 use Rattle.cell_theorems.proofs.Laws.Waiting.{own-same}

@@ -18,7 +18,6 @@ use Rattle.bench.specs.Calls.{queue, withStation}
 use Rattle.bench.specs.Runs.{queued, afterEvent}
 use Rattle.bench.proofs.Laws.Calls.{queue-inside}
 use Rattle.bench.specs.declared.calls.Queued.{Queued}
-use Rattle.bench.specs.declared.ring.Wire.{Wire}
 use Rattle.bench.specs.declared.ring.Bench.{Bench}
 use Rattle.bench_theorems.proofs.Laws.FullSet.{seats-most}
 use Rattle.bench_theorems.proofs.Laws.Queueing.{quiet-queue, queue-wire}

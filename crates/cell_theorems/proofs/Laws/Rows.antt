@@ -1,24 +1,20 @@
 -- A packet's row, as the codec reads it, is the bench's row of its frame. Assumes nothing.
 use mathlib.Core.Path.{_≡_, refl, sym, ap, _∙_}
-use mathlib.Core.List.{List, [], _∷_}
-use Prim.Native.Nat.{ℕ, _<_}
-use native.Mathlib.Omega.{arith}
+use mathlib.Core.List.{List}
+use Prim.Native.Nat.{ℕ}
 use lib.ListN.{length}
 use Rattle.codec.specs.Ring.{position}
 use Rattle.packet_codec.specs.Packet.{readPacket}
-use Rattle.packet_codec.specs.declared.reading.Read.{Read}
 use Rattle.packet_codec.specs.declared.reading.Read.the-variants.{Good}
 use Rattle.parts.specs.declared.frame.Frame.{Frame}
 use Rattle.parts.specs.declared.frame.Frame.the-variants.{Token, Transmit, Information}
 use Rattle.parts.specs.declared.frame.Dispatch.{Dispatch}
-use Rattle.parts.specs.declared.frame.Dispatch.the-variants.{Nothing, Sent}
+use Rattle.parts.specs.declared.frame.Dispatch.the-variants.{Sent}
 use Rattle.shell.specs.Packets.{packetOf}
 use Rattle.shell.specs.Calls.{ringOf}
 use Rattle.bench.specs.Rows.{rowOn, rowsOn, rowOf as benchRow}
-use Rattle.bench.specs.declared.ring.Wire.{Wire}
 use Rattle.bench.specs.declared.ring.Bench.{Bench}
-use Rattle.bench.specs.declared.rows.Row.{Row}
-use Rattle.cell_theorems.specs.Cell.{Transit, Cell, members, retries, addressAt}
+use Rattle.cell_theorems.specs.Cell.{Cell}
 use Rattle.cell_theorems.specs.AsBench.{rowRead, rowOf}
 use Rattle.cell_theorems.proofs.Laws.Matching.{Matches, to-same, from-is, to-is}
 

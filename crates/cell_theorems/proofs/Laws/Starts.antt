@@ -1,19 +1,15 @@
 -- A cell that has started is a new ring of the bench. Assumes nothing.
-use mathlib.Core.Path.{_≡_, refl, sym, ap, subst, _∙_}
+use mathlib.Core.Path.{sym, ap, subst, _∙_}
 use mathlib.Core.List.{List}
 use Prim.Native.Nat.{ℕ, _<_}
 use native.Mathlib.Omega.{arith}
-use lib.ListN.{getD}
 use Rattle.parts.specs.Live.{after}
-use Rattle.parts.specs.declared.frame.Dispatch.the-variants.{Nothing, Sent}
 use Rattle.station.specs.declared.station.Answer.{Answer}
-use Rattle.bench.specs.Ring.{ringWith, firstAnswer}
-use Rattle.bench.specs.declared.ring.Wire.{Wire}
-use Rattle.bench.specs.declared.ring.Bench.{Bench}
+use Rattle.bench.specs.Ring.{ringWith}
 use Rattle.bench_theorems.proofs.Laws.Beginning.{ring-n, ring-at}
 use Rattle.bench_theorems.proofs.Laws.Started.{firstFrame, first-sent, starts-idle}
 use Rattle.bench_theorems.proofs.Laws.Ringing.{first-wire, quiet-start}
-use Rattle.cell_theorems.specs.Cell.{Node, Transit, Cell, members, retries, addressAt, left, Begun, Started}
+use Rattle.cell_theorems.specs.Cell.{Transit, Cell, members, retries, addressAt, left, Begun, Started}
 use Rattle.cell_theorems.specs.AsBench.{StartsDone}
 use Rattle.cell_theorems.proofs.Laws.Files.{two, most, low, high}
 use Rattle.cell_theorems.proofs.Laws.Begins.{make-done, start-done, begun-station, begun-keeps, begun-silent, begun-conveys}

@@ -7,10 +7,7 @@ use native.Mathlib.Omega.{arith}
 use lib.Dec.{eqb}
 use lib.ListN.{getD}
 use borrow.Author.Tests.{eqb-true, eqb-false}
-use Rattle.codec.specs.Ring.{position}
 use Rattle.parts.specs.declared.frame.Frame.{Frame}
-use Rattle.parts.specs.declared.frame.Dispatch.{Dispatch}
-use Rattle.parts.specs.declared.frame.Dispatch.the-variants.{Nothing, Sent}
 use Rattle.station.specs.Heard.{frameRule}
 use Rattle.station.specs.declared.station.Station.{Station}
 use Rattle.station.specs.declared.station.Answer.{Answer}
@@ -18,17 +15,16 @@ use Rattle.shell.specs.Calls.{ringOf, stationIn}
 use Rattle.shell.specs.Places.{carriedIn}
 use Rattle.wire_theorems.specs.Wire.{OnWire}
 use Rattle.bench.specs.Ring.{stationAt}
-use Rattle.bench.specs.Delivery.{deliver, step}
+use Rattle.bench.specs.Delivery.{step}
 use Rattle.bench.specs.Runs.{stepped, afterEvent}
-use Rattle.bench.specs.declared.ring.Wire.{Wire}
 use Rattle.bench.specs.declared.ring.Bench.{Bench}
-use Rattle.bench_theorems.specs.Quiet.{Quiet, Picture}
+use Rattle.bench_theorems.specs.Quiet.{Quiet}
 use Rattle.bench_theorems.proofs.Laws.Answers.{Role, sends, answers, overhears, role, silent-at, answer-at, new-sent}
 use Rattle.bench_theorems.proofs.Laws.Delivering.{step-delivers, stays-there, hears-there, reply-in, step-wire, quiet-step}
 use Rattle.bench_theorems.proofs.Theorems.ReachedQuiet.{event-n}
 use Rattle.cell_theorems.specs.Cell.{Node, Transit, Cell, members, retries, addressAt, left, FrameCall, HandedOn}
 use Rattle.cell_theorems.specs.AsBench.{StepDone}
-use Rattle.cell_theorems.proofs.Laws.Files.{position-is, same-position}
+use Rattle.cell_theorems.proofs.Laws.Files.{same-position}
 use Rattle.cell_theorems.proofs.Laws.Nodes.{Kept, frame-number, frame-station, frame-silent, frame-conveys, frame-keeps}
 use Rattle.cell_theorems.proofs.Laws.Matching.{Carries, Matches, left-carries, frame-same, from-inside, to-inside, to-address, from-is, to-is}
 

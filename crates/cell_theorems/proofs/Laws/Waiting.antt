@@ -10,7 +10,6 @@ use lib.ListN.{length, length-append}
 use Rattle.parts.specs.Choose.{pick}
 use Rattle.parts.specs.Messages.{all, flies, lowestFree}
 use Rattle.parts.specs.Frames.{flight}
-use Rattle.parts.specs.declared.list.Message.{Message}
 use Rattle.parts.specs.declared.frame.Dispatch.{Dispatch}
 use Rattle.station.specs.Stations.{awaitedOf}
 use Rattle.station.specs.declared.station.Station.{Station}
@@ -18,15 +17,15 @@ use Rattle.shell.specs.Calls.{stationIn}
 use Rattle.bench.specs.Ring.{stationAt}
 use Rattle.bench.specs.Delivery.{step}
 use Rattle.bench.specs.Rows.{rowsOn}
-use Rattle.bench.specs.Runs.{Event, stepped, afterEvent}
+use Rattle.bench.specs.Runs.{afterEvent}
 use Rattle.bench.specs.declared.ring.Bench.{Bench}
 use Rattle.bench.specs.declared.rows.Row.{Row}
 use Rattle.bench_theorems.specs.Counting.{stepsIn}
 use Rattle.bench_theorems.proofs.Laws.Answers.{stands-waits}
-use Rattle.waiting.specs.Waiting.{Spot, spotFor, own, before, goes, Waits, OnTop, Until, StaysOnTop}
+use Rattle.waiting.specs.Waiting.{Spot, spotFor, own, before, goes, OnTop, Until, StaysOnTop}
 use Rattle.cell_theorems.specs.Cell.{Transit, Cell, members, addressAt, Act, handed, asked, Run, done, hand-on, ask}
 use Rattle.cell_theorems.specs.AsBench.{events, rows, rowOf}
-use Rattle.cell_theorems.specs.Waiting.{spotIn, ownIn, beforeIn, goesIn, WaitsIn, OnTopIn, StaysOnTopIn, stepsOf}
+use Rattle.cell_theorems.specs.Waiting.{spotIn, ownIn, beforeIn, goesIn, OnTopIn, StaysOnTopIn, stepsOf}
 use Rattle.cell_theorems.proofs.Laws.Files.{same-position}
 use Rattle.cell_theorems.proofs.Laws.Matching.{Matches, from-inside}
 use Rattle.cell_theorems.proofs.Laws.Steps.{step-matches}

@@ -4,12 +4,8 @@ use mathlib.Core.List.{List}
 use Prim.Native.Nat.{ℕ}
 use Rattle.cell_theorems.specs.Cell.{Cell, Started, Act, Run}
 use Rattle.cell_theorems.specs.AsBench.{benchAfter, AsBench}
-use Rattle.cell_theorems.proofs.Laws.Matching.{Matches, as-bench}
-use Rattle.cell_theorems.proofs.Laws.Starts.{started-matches}
-use Rattle.cell_theorems.proofs.Laws.Runs.{run-matches}
-
-pub reached-matches : {file : List ℕ} {c₀ : Cell} → Started file c₀ → {acts : List Act} {c : Cell} → Run file c₀ acts c → Matches file c (benchAfter file acts)
-reached-matches {file} {c₀} s r = run-matches (started-matches file c₀ s) r
+use Rattle.cell_theorems.proofs.Laws.Matching.{as-bench}
+use Rattle.cell_theorems.proofs.Laws.Runs.{reached-matches}
 
 pub reached-as-bench : {file : List ℕ} {c₀ : Cell} → Started file c₀ → {acts : List Act} {c : Cell} → Run file c₀ acts c → AsBench file c (benchAfter file acts)
 reached-as-bench s r = as-bench (reached-matches s r)

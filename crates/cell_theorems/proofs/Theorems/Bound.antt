@@ -2,9 +2,8 @@
 -- goes after at most 2N+1 short packets and one of information, (2N+1)*72+1526 octets on the wire as the codec counts them, no later than as the
 -- (2N+3)th packet composed after its acceptance. Of every good ring file, whatever ran before and falls between. Assumes nothing.
 use mathlib.Core.Path.{_≡_, refl, sym, ap, subst, _∙_}
-use mathlib.Core.Bool.{Bool, true}
 use mathlib.Core.List.{List}
-use Prim.Native.Nat.{ℕ, _+_, _*_, _<_, _≤_}
+use Prim.Native.Nat.{ℕ}
 use native.Mathlib.Omega.{arith}
 use lib.ListN.{length}
 use Rattle.station.specs.Queue.{newMessage}
@@ -15,22 +14,20 @@ use Rattle.wire_theorems.specs.Store.{ToSend, sendPayload}
 use Rattle.wire_theorems.proofs.Theorems.QueuedCarried.{queue-puts}
 use Rattle.bench.specs.Ring.{stationAt}
 use Rattle.bench.specs.Calls.{queue}
-use Rattle.bench.specs.Runs.{Event}
 use Rattle.bench.specs.declared.ring.Bench.{Bench}
-use Rattle.bench.specs.declared.rows.Row.{Row}
 use Rattle.parts.specs.declared.list.Message.{Message}
-use Rattle.waiting.specs.Waiting.{Spot, spotFor, before, goes, StaysOnTop, shorts, informations, octetsOnWire, Bound}
+use Rattle.waiting.specs.Waiting.{Spot, spotFor, before, StaysOnTop, shorts, informations, octetsOnWire, Bound}
 use Rattle.waiting.proofs.Theorems.Bound.{bound}
 use Rattle.cell_theorems.specs.Cell.{Node, Cell, members, retries, Started, Asking, QueueCall, Act, Run}
 use Rattle.cell_theorems.specs.AsBench.{events, benchAfter, requestIn, rows}
-use Rattle.cell_theorems.specs.Waiting.{spotIn, beforeIn, goesIn, StaysOnTopIn, stepsOf, BoundIn}
+use Rattle.cell_theorems.specs.Waiting.{spotIn, beforeIn, StaysOnTopIn, BoundIn}
 use Rattle.cell_theorems.proofs.Laws.Files.{two, most, low, high}
 use Rattle.cell_theorems.proofs.Laws.Nodes.{kept-ring}
 use Rattle.cell_theorems.proofs.Laws.Own.{own-packet}
 use Rattle.cell_theorems.proofs.Laws.Matching.{Matches}
 use Rattle.cell_theorems.proofs.Laws.Queues.{call-number, queue-matches}
 use Rattle.cell_theorems.proofs.Laws.Waiting.{before-same, before-length, goes-same, stays-same, spot-same, steps-same}
-use Rattle.cell_theorems.proofs.Theorems.AsBench.{reached-matches}
+use Rattle.cell_theorems.proofs.Laws.Runs.{reached-matches}
 
 module _
     {file : List ℕ} {c₀ : Cell} (s : Started file c₀) {acts : List Act} {c : Cell} (r₀ : Run file c₀ acts c) (a : Asking) {c₁ : Cell}

@@ -7,7 +7,7 @@ use Rattle.cell_theorems.specs.AsBench.{benchAfter, StartsDone, StepDone
 use Rattle.cell_theorems.proofs.Laws.Starts.{starts-done}
 use Rattle.cell_theorems.proofs.Laws.Steps.{step-done}
 use Rattle.cell_theorems.proofs.Laws.Queues.{call-number}
-use Rattle.cell_theorems.proofs.Theorems.AsBench.{reached-matches}
+use Rattle.cell_theorems.proofs.Laws.Runs.{reached-matches}
 
 pub no-start-refused : (file : List ℕ) (c : Cell) (s : Started file c) → StartsDone file c s
 no-start-refused file c s = starts-done file c s

@@ -2,7 +2,7 @@
 -- members or more the calls run so. Assumes nothing.
 use mathlib.Core.Path.{_≡_, refl, sym, ap, subst, _∙_}
 use mathlib.Core.List.{List, [], _∷_}
-use Prim.Native.Nat.{ℕ, zero, suc, _+_, _-_, _*_, _<_, _≤_}
+use Prim.Native.Nat.{ℕ, zero, suc, _+_, _-_, _*_, _≤_}
 use native.Mathlib.Omega.{arith}
 use lib.ListN.{length}
 use Rattle.codec.specs.Octets.{zeros}
@@ -15,18 +15,18 @@ use Rattle.bench.specs.Ring.{ringWith}
 use Rattle.bench.specs.Calls.{queue}
 use Rattle.bench.specs.Runs.{Event, stepped, queued, final, stepping}
 use Rattle.bench.specs.declared.ring.Bench.{Bench}
-use Rattle.waiting.specs.Waiting.{Spot, spotFor, before, goes, shorts, informations, octetsOnWire, StaysOnTop, ReachesBound, Tight, fewest, itsRequest, foreignRequest, foreignQueued, atQueue}
+use Rattle.waiting.specs.Waiting.{Spot, spotFor, before, shorts, informations, octetsOnWire, StaysOnTop, ReachesBound, Tight, fewest, itsRequest, foreignRequest, foreignQueued}
 use Rattle.waiting.proofs.Theorems.Tight.{tight}
-use Rattle.cell_theorems.specs.Cell.{Cell, members, retries, addressAt, Started, Act, handed, asked, Run, done, ask, QueueCall}
+use Rattle.cell_theorems.specs.Cell.{Cell, members, retries, addressAt, Started, Act, asked, Run, done, ask, QueueCall}
 use Rattle.cell_theorems.specs.AsBench.{events, benchAfter, requestIn, rows}
-use Rattle.cell_theorems.specs.Waiting.{spotIn, beforeIn, goesIn, StaysOnTopIn, ReachesIn, handings, itsAsking, foreignAsking, TightFrom}
+use Rattle.cell_theorems.specs.Waiting.{spotIn, beforeIn, ReachesIn, handings, itsAsking, foreignAsking, TightFrom}
 use Rattle.cell_theorems.proofs.Laws.Octets.{zeros-octets}
 use Rattle.cell_theorems.proofs.Laws.Files.{two, most, low, high, position-is}
 use Rattle.cell_theorems.proofs.Laws.Matching.{Matches}
 use Rattle.cell_theorems.proofs.Laws.Queues.{call-number, queue-matches}
 use Rattle.cell_theorems.proofs.Laws.Waiting.{before-same, before-length, goes-same, stays-back, spot-same}
 use Rattle.cell_theorems.proofs.Laws.Outcomes.{startedCell, starts, askedCell, asks-it, hand-all, Handings}
-use Rattle.cell_theorems.proofs.Theorems.AsBench.{reached-matches}
+use Rattle.cell_theorems.proofs.Laws.Runs.{reached-matches}
 
 pub some-start : (file : List ℕ) → readRing file .number ≡ 0 → (c : Cell) × Started file c
 some-start file good = (startedCell file, starts file good)
