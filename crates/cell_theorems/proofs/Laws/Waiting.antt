@@ -62,9 +62,6 @@ module _ (file : List ℕ) (x : Spot) (member : x .station < members file) where
   unfolding ownIn own
   own-same {c} {b} m = go (eqb (b .wire .from) (x .station)) refl
     where
-      d : Dispatch
-      d = awaitedOf (stationIn (c .node (x .station) .rec))
-
       go : (t : Bool) → eqb (b .wire .from) (x .station) ≡ t
           → Its (x .place) (eqb (c .wire .from) (addressAt file (x .station))) (awaitedOf (stationIn (c .node (x .station) .rec)))
           ≡ Its (x .place) (eqb (b .wire .from) (x .station)) (b .wire .sent)
