@@ -11,6 +11,8 @@ use Rattle.packet_codec.specs.declared.reading.Read.{Read}
 use Rattle.packet_codec.specs.declared.reading.Read.the-variants.{Refused, Good}
 use Rattle.parts.specs.declared.frame.Frame.{Frame}
 use Rattle.parts.specs.declared.frame.Dispatch.the-variants.{Sent}
+use Rattle.station.specs.Stations.{awaitedOf}
+use Rattle.shell.specs.Places.{carriedIn}
 use Rattle.shell.specs.Calls.{ringOf, stationIn, requestOf}
 use Rattle.wire_theorems.specs.Wire.{OnWire}
 use Rattle.bench.specs.Ring.{stationAt, ringWith}
@@ -101,6 +103,11 @@ pub record StepDone (file : List ℕ) (c c′ : Cell) (s : HandedOn file c c′)
   pub another : addressAt file addressee ≡ c .wire .from → ⊥
   pub silent : (p : ℕ) (h : p < members file) (o : addressAt file p ≡ c .wire .from → ⊥) → (p ≡ addressee → ⊥)
       → getD (s .calls p h o .told) 0 0 ≡ 0
+  -- the packet on the wire then is the frame that the addressee's record awaits, with what its store had for it
+  pub frame : Frame
+  pub onward : ℕ
+  pub awaited : awaitedOf (stationIn (c′ .node addressee .rec)) ≡ Sent frame onward
+  pub composed : OnWire (ringOf file) frame (carriedIn (c .node addressee .store) frame) (c′ .wire .octets)
 
 -- a queue call gives the bench's number
 abbrev pub QueueNumbered : (file : List ℕ) (b : Bench) (a : Asking) (c c′ : Cell) → QueueCall file a c c′ → Type 0

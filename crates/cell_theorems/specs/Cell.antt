@@ -1,5 +1,5 @@
 -- A cell: N nodes of one ring file, each a record and its store, and the packet on the wire; and what a driver's calls make of it.
-use Prim.Native.Nat.{ℕ, _+_, _*_, _<_, _≤_}
+use Prim.Native.Nat.{ℕ, _<_, _≤_}
 use mathlib.Core.Path.{_≡_}
 use mathlib.Core.List.{List, [], _∷_}
 use lib.ListN.{length, take, getD}
@@ -9,6 +9,7 @@ use Rattle.packet_codec.specs.Packet.{longestPacket}
 use Rattle.records.specs.Layout.{recordLength, storeLength}
 use Rattle.shell.specs.Packets.{addressOf}
 use Rattle.shell.specs.Calls.{ringOf, ringIn, requestOf, Making, Starting, Hearing, Queueing}
+use Rattle.rtep.specs.Sizes.{toldNumbers}
 
 -- a node: its record and its store
 pub record Node : Type 0 where
@@ -38,10 +39,6 @@ abbrev pub addressAt : List ℕ → ℕ → ℕ
 addressAt file p = addressOf (ringOf file) p
 
 -- ---- a call that may send
-
--- four numbers, and five for each of 16 messages
-abbrev pub toldNumbers : ℕ
-toldNumbers = 4 + 5 * 16
 
 -- what is lent to it: an out buffer with room for the longest packet, and the numbers to tell in
 pub record Lent : Type 0 where

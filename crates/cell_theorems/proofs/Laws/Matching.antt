@@ -8,6 +8,7 @@ use Rattle.codec.specs.Ring.{readRing, position}
 use Rattle.parts.specs.declared.frame.Frame.{Frame}
 use Rattle.parts.specs.declared.frame.Dispatch.{Dispatch}
 use Rattle.parts.specs.declared.frame.Dispatch.the-variants.{Nothing, Sent}
+use Rattle.station.specs.Stations.{awaitedOf}
 use Rattle.shell.specs.Calls.{ringOf, stationIn}
 use Rattle.shell.specs.Places.{carriedIn}
 use Rattle.wire_theorems.specs.Wire.{OnWire, Conveyed}
@@ -15,6 +16,7 @@ use Rattle.bench.specs.Ring.{stationAt}
 use Rattle.bench.specs.declared.ring.Wire.{Wire}
 use Rattle.bench.specs.declared.ring.Bench.{Bench}
 use Rattle.bench_theorems.specs.Quiet.{Quiet}
+use Rattle.bench_theorems.proofs.Laws.Answers.{stands-waits}
 use Rattle.cell_theorems.specs.Cell.{Transit, Cell, members, retries, addressAt, left}
 use Rattle.cell_theorems.specs.AsBench.{AsBench}
 use Rattle.cell_theorems.proofs.Laws.Octets.{packet-octets, carried-octets}
@@ -87,6 +89,13 @@ module _ {file : List ℕ} {c : Cell} {b : Bench} (m : Matches file c b) where
 
   pub to-is : position (ringOf file) (c .wire .to) ≡ m .quiet .to
   to-is = ap (position (ringOf file)) to-address ∙ position-is file (m .good) (m .quiet .to) to-inside
+
+  -- its sender awaits it
+  pub sender-awaits : awaitedOf (stationIn (c .node (b .wire .from) .rec)) ≡ b .wire .sent
+  sender-awaits =
+      ap awaitedOf (m .stations (b .wire .from) from-inside)
+      ∙ stands-waits refl (m .quiet .picture .turns (b .wire .from) (m .quiet .picture .sender-member)) .awaited
+      ∙ sym (m .quiet .on-wire)
 
 -- what a call leaves that sends f
 pub left-carries : (file store : List ℕ) → Octets store → (p : ℕ) (f : Frame) (to : ℕ) (out told : List ℕ) → Conveyed (ringOf file) store f to out told

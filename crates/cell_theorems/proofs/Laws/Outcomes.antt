@@ -20,7 +20,8 @@ use Rattle.shell.specs.Packets.{sentOctets}
 use Rattle.shell.specs.Places.{informationOf, queued}
 use Rattle.shell.specs.Telling.{toldOf}
 use Rattle.shell.specs.Calls.{ringOf, ringIn, callNumber, badOut, badStore, badBuffers, recordWith, makeNumber, madeFrom, startAnswer, frameAnswer, queueAnswer, storeHeard, requestOf, Making, Sending, Hearing, Queueing}
-use Rattle.cell_theorems.specs.Cell.{Node, Transit, Cell, members, addressAt, toldNumbers, Lent, left, Begun, Started, HandedOn, Asking, QueueCall, Run, done, hand-on}
+use Rattle.rtep.specs.Sizes.{toldNumbers}
+use Rattle.cell_theorems.specs.Cell.{Node, Transit, Cell, members, addressAt, Lent, left, Begun, Started, HandedOn, Asking, QueueCall, Run, done, hand-on}
 use Rattle.cell_theorems.specs.Waiting.{handings}
 use Rattle.cell_theorems.proofs.Laws.Octets.{zeros-octets}
 use Rattle.cell_theorems.proofs.Laws.Files.{position-is}

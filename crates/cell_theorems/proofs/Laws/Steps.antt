@@ -8,6 +8,7 @@ use lib.Dec.{eqb}
 use lib.ListN.{getD}
 use borrow.Author.Tests.{eqb-true, eqb-false}
 use Rattle.parts.specs.declared.frame.Frame.{Frame}
+use Rattle.station.specs.Stations.{awaitedOf}
 use Rattle.station.specs.Heard.{frameRule}
 use Rattle.station.specs.declared.station.Station.{Station}
 use Rattle.station.specs.declared.station.Answer.{Answer}
@@ -17,6 +18,7 @@ use Rattle.wire_theorems.specs.Wire.{OnWire}
 use Rattle.bench.specs.Ring.{stationAt}
 use Rattle.bench.specs.Delivery.{step}
 use Rattle.bench.specs.Runs.{stepped, afterEvent}
+use Rattle.bench.specs.declared.ring.Wire.{Wire}
 use Rattle.bench.specs.declared.ring.Bench.{Bench}
 use Rattle.bench_theorems.specs.Quiet.{Quiet}
 use Rattle.bench_theorems.proofs.Laws.Answers.{Role, sends, answers, overhears, role, silent-at, answer-at, new-sent}
@@ -26,7 +28,7 @@ use Rattle.cell_theorems.specs.Cell.{Node, Transit, Cell, members, retri
 use Rattle.cell_theorems.specs.AsBench.{StepDone}
 use Rattle.cell_theorems.proofs.Laws.Files.{same-position}
 use Rattle.cell_theorems.proofs.Laws.Nodes.{Kept, frame-number, frame-station, frame-silent, frame-conveys, frame-keeps}
-use Rattle.cell_theorems.proofs.Laws.Matching.{Carries, Matches, left-carries, frame-same, from-inside, to-inside, to-address, from-is, to-is}
+use Rattle.cell_theorems.proofs.Laws.Matching.{Carries, Matches, left-carries, frame-same, from-inside, to-inside, to-address, from-is, to-is, sender-awaits}
 
 module _ (file : List ℕ) (c c′ : Cell) (b : Bench) (m : Matches file c b) (s : HandedOn file c c′) where
   abbrev q : Quiet (retries file) b
@@ -160,4 +162,13 @@ module _ (file : List ℕ) (c c′ : Cell) (b : Bench) (m : Matches file c b) (s
         addressed = sym (to-address m);
         another = addressee-another;
         silent = call-silent;
+        frame = step-matches .wire .frame;
+        onward = step-matches .wire .to;
+        awaited =
+            ap (λ (p : ℕ). awaitedOf (stationIn (c′ .node p .rec))) (sym (ap (λ (v : Wire). v .from) (step-wire b q)))
+            ∙ sender-awaits step-matches
+            ∙ step-matches .wire .frame-is;
+        composed =
+            subst (λ (l : List ℕ). OnWire (ringOf file) (step-matches .wire .frame) (carriedIn l (step-matches .wire .frame)) (c′ .wire .octets)) step-store
+            (step-matches .wire .on-wire);
       }

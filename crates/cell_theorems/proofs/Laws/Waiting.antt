@@ -21,13 +21,12 @@ use Rattle.bench.specs.Runs.{afterEvent}
 use Rattle.bench.specs.declared.ring.Bench.{Bench}
 use Rattle.bench.specs.declared.rows.Row.{Row}
 use Rattle.bench_theorems.specs.Counting.{stepsIn}
-use Rattle.bench_theorems.proofs.Laws.Answers.{stands-waits}
 use Rattle.waiting.specs.Waiting.{Spot, spotFor, own, before, goes, OnTop, Until, StaysOnTop}
 use Rattle.cell_theorems.specs.Cell.{Transit, Cell, members, addressAt, Act, handed, asked, Run, done, hand-on, ask}
 use Rattle.cell_theorems.specs.AsBench.{events, rows, rowOf}
 use Rattle.cell_theorems.specs.Waiting.{spotIn, ownIn, beforeIn, goesIn, OnTopIn, StaysOnTopIn, stepsOf}
 use Rattle.cell_theorems.proofs.Laws.Files.{same-position}
-use Rattle.cell_theorems.proofs.Laws.Matching.{Matches, from-inside}
+use Rattle.cell_theorems.proofs.Laws.Matching.{Matches, from-inside, sender-awaits}
 use Rattle.cell_theorems.proofs.Laws.Steps.{step-matches}
 use Rattle.cell_theorems.proofs.Laws.Queues.{queue-matches}
 use Rattle.cell_theorems.proofs.Laws.Rows.{row-same, one-row}
@@ -69,9 +68,7 @@ module _ (file : List ℕ) (x : Spot) (member : x .station < members file) where
           let same : b .wire .from ≡ x .station = eqb-true (b .wire .from) (x .station) e in
           let address : c .wire .from ≡ addressAt file (x .station) = m .wire .from-address ∙ ap (addressAt file) same in
           let awaits : awaitedOf (stationIn (c .node (x .station) .rec)) ≡ b .wire .sent =
-          ap awaitedOf (m .stations (x .station) member ∙ ap (stationAt b) (sym same))
-          ∙ stands-waits refl (m .quiet .picture .turns (b .wire .from) (m .quiet .picture .sender-member)) .awaited
-          ∙ sym (m .quiet .on-wire) in
+          ap (λ (p : ℕ). awaitedOf (stationIn (c .node p .rec))) (sym same) ∙ sender-awaits m in
           ap (λ (t : Bool). Its (x .place) t (awaitedOf (stationIn (c .node (x .station) .rec)))) (eq-eqb _ _ address ∙ sym e)
           ∙ ap (Its (x .place) (eqb (b .wire .from) (x .station))) awaits
       go false e =
