@@ -14,7 +14,6 @@ use Rattle.parts.specs.declared.frame.Dispatch.{Dispatch}
 use Rattle.station.specs.Stations.{awaitedOf}
 use Rattle.station.specs.declared.station.Station.{Station}
 use Rattle.shell.specs.Calls.{stationIn}
-use Rattle.bench.specs.Ring.{stationAt}
 use Rattle.bench.specs.Delivery.{step}
 use Rattle.bench.specs.Rows.{rowsOn}
 use Rattle.bench.specs.Runs.{afterEvent}
