@@ -40,12 +40,13 @@ none-of-three false true c k h e = absurd (h refl e)
 none-of-three false false true k h e = absurd (omega (arith, e))
 none-of-three false false false k h e = (refl, (refl, refl))
 
-record Limits (r : RingRead) : Type 0 where
-  low : 2 ≤ r .ring .n
-  first : 1 ≤ r .ring .limit
-  most : r .ring .limit ≤ 15
+-- a good ring file's N from 2 (to 64, whatever the file), and its R from 1 to 15
+pub record Limits (r : RingRead) : Type 0 where
+  pub low : 2 ≤ r .ring .n
+  pub first : 1 ≤ r .ring .limit
+  pub most : r .ring .limit ≤ 15
 
-limits : (file : List ℕ) → readRing file .number ≡ 0 → Limits (readRing file)
+pub limits : (file : List ℕ) → readRing file .number ≡ 0 → Limits (readRing file)
 unfolding ringOf
 limits file e =
     let z = read-zero file e in
