@@ -11,7 +11,7 @@ use Rattle.parts.specs.declared.frame.Dispatch.the-variants.{Nothing, Sent}
 use Rattle.parts.specs.declared.frame.Frame.{Frame}
 use Rattle.parts.specs.declared.frame.Frame.the-variants.{Transmit}
 use Rattle.parts.specs.declared.request.Request.{Request}
-use Rattle.plain_rules.specs.Round.{granting}
+use Rattle.sent.specs.Round.{granting}
 use Rattle.station.specs.Queue.{queueRule}
 use Rattle.station.specs.declared.station.Answer.{Answer}
 use Rattle.station.specs.declared.station.Station.{Station}

@@ -15,7 +15,7 @@ impl Bench {
     pub fn queue(self, from: usize, q: Request) -> Queued
         ensures { λ r. ⌜ r ≡ queue self from q ⌝ }
     {
-        let m = parts::live::seats_of(self.n);
+        let m = parts::live::seats(self.n);
         if m <= from {
             return Queued {
                 bench: self,

@@ -12,7 +12,7 @@ use station::station::Station;
 pub fn is_quiet(frame: Frame) -> bool
     ensures { λ r. ⌜ r ≡ isQuiet frame ⌝ }
 {
-    let failing = plain_rules::heard::failing_of(frame);
+    let failing = parts::frame::failing_of(frame);
     match failing {
         Whom::Nobody => true,
         Whom::Member(_) => false,

@@ -38,7 +38,7 @@ impl Bench {
             from: 0,
             sent: Dispatch::Nothing,
         };
-        let mut p = parts::live::seats_of(n);
+        let mut p = parts::live::seats(n);
         while 0 < p {
             p -= 1;
             let own = p as u8;

@@ -148,7 +148,7 @@ pub fn handing_of(g: Going) -> Handing
 {
     let w = g.wire;
     let d = w.sent;
-    let m = parts::live::seats_of(g.n);
+    let m = parts::live::seats(g.n);
     match d {
         Dispatch::Sent { frame, to } => {
             let quiet = crate::delivery::is_quiet(frame);

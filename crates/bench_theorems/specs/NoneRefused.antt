@@ -3,7 +3,7 @@ use mathlib.Core.Path.{_≡_}
 use mathlib.Core.Bool.{true}
 use Prim.Native.Nat.{ℕ, _<_, _≤_}
 use Rattle.station.specs.Heard.{frameRule}
-use Rattle.plain_rules.specs.Refusals.{queueRefusal}
+use Rattle.parts.specs.Refusals.{queueRefusal}
 use Rattle.parts.specs.declared.frame.Frame.{Frame}
 use Rattle.parts.specs.declared.frame.Dispatch.the-variants.{Sent}
 use Rattle.parts.specs.declared.request.Request.{Request}

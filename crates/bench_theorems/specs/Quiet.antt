@@ -9,7 +9,7 @@ use Rattle.parts.specs.Choose.{pick}
 use Rattle.parts.specs.Live.{full, after}
 use Rattle.parts.specs.Frames.{numberOf, next, fit}
 use Rattle.station.specs.Stations.{stateOf, awaitedOf, head}
-use Rattle.plain_rules.specs.Round.{priorityOf}
+use Rattle.sent.specs.Round.{priorityOf}
 use Rattle.parts.specs.declared.moves.State.the-variants.{Idle, Waiting}
 use Rattle.parts.specs.declared.frame.Whom.the-variants.{Nobody}
 use Rattle.parts.specs.declared.frame.TokenFrame.{TokenFrame}

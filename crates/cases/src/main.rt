@@ -38,7 +38,7 @@ fn obey(s: Station, line: &[u8]) -> Station {
         return tell(s.timer());
     }
     if script::lines::is_word(word, b"queue") {
-        let n = script::lines::numbers_behind(line, k);
+        let n = script::lines::numbers_of(line, k);
         let q = Request {
             to: n.values[0],
             priority: n.values[1],

@@ -18,9 +18,6 @@ form file = bits file 0 4
 abbrev pub others : List ℕ → ℕ
 others file = bits file 4 6
 
-abbrev pub count : List ℕ → ℕ
-count file = others file + 1
-
 abbrev pub limit : List ℕ → ℕ
 limit file = bits file 10 4
 
@@ -30,10 +27,28 @@ zeroBits file = bits file 14 2
 abbrev pub headBits : List ℕ → HeadBits
 headBits file = record { form = form file; others = others file; limit = limit file; zeros = zeroBits file }
 
+-- N
+abbrev pub countOf : HeadBits → ℕ
+countOf h = h .others + 1
+
+abbrev pub count : List ℕ → ℕ
+count file = countOf (headBits file)
+
+-- ---- how long it is: the head, and a stride for each member
+
+abbrev pub headLength : ℕ
+headLength = 2
+
+abbrev pub stride : ℕ
+stride = 6
+
+abbrev pub fileOctets : ℕ → ℕ
+fileOctets n = headLength + stride * n
+
 -- the first n addresses of a file
 unfoldable pub addressesOf : List ℕ → ℕ → List ℕ
 addressesOf file zero = []
-addressesOf file (suc n) = addressesOf file n ++ (bits file (16 + n * 48) 48 ∷ [])
+addressesOf file (suc n) = addressesOf file n ++ (bits file (fileOctets n * 8) 48 ∷ [])
 
 -- ---- addresses
 
@@ -51,15 +66,18 @@ isMember members a = ltb (position members a) (length members)
 
 -- ---- the checks
 
-abbrev pub headTests : List ℕ → List (Bool × ℕ)
-headTests file =
-    (ltb (length file) 2, 1)
-    ∷ (not (eqb (form file) 1), 2)
-    ∷ (not (eqb (zeroBits file) 0), 3)
-    ∷ (eqb (others file) 0, 4)
-    ∷ (eqb (limit file) 0, 5)
-    ∷ (not (eqb (length file) (2 + 6 * count file)), 1)
+-- of the fields of a head, in a file of so many octets
+abbrev pub fieldTests : HeadBits → ℕ → List (Bool × ℕ)
+fieldTests h size =
+    (not (eqb (h .form) 1), 2)
+    ∷ (not (eqb (h .zeros) 0), 3)
+    ∷ (eqb (h .others) 0, 4)
+    ∷ (eqb (h .limit) 0, 5)
+    ∷ (not (eqb size (fileOctets (countOf h))), 1)
     ∷ []
+
+abbrev pub headTests : List ℕ → List (Bool × ℕ)
+headTests file = (ltb (length file) headLength, 1) ∷ fieldTests (headBits file) (length file)
 
 abbrev pub addressTests : List ℕ → ℕ → List (Bool × ℕ)
 addressTests earlier a = (badAddress a, 6) ∷ (isMember earlier a, 7) ∷ []
@@ -71,6 +89,10 @@ addressesTests earlier (a ∷ more) = addressTests earlier a ++ addressesTests (
 
 unfoldable pub headRefusal : List ℕ → ℕ
 headRefusal file = firstOf 0 (headTests file)
+
+-- the head's own, behind its length
+unfoldable pub fieldRefusal : HeadBits → ℕ → ℕ
+fieldRefusal h size = firstOf 0 (fieldTests h size)
 
 unfoldable pub addressRefusal : List ℕ → ℕ → ℕ
 addressRefusal earlier a = firstOf 0 (addressTests earlier a)

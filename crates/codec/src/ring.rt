@@ -4,7 +4,10 @@ ghost use mathlib.Core.Bool.{true};
 ghost use Prim.Native.Nat.{_+_, _*_, _≤_, _<_};
 ghost use lib.ListN.{length, take, drop, getD};
 ghost use Rattle.codec.specs.Octets.{laid};
-ghost use Rattle.codec.specs.Ring.{badAddress, position, isMember, headRefusal, addressesOf, addressRefusal, addressesRefusal, count, ringRefusal};
+ghost use Rattle.codec.specs.Ring.{badAddress, position, isMember, fieldRefusal, fileOctets, addressesOf, addressRefusal, addressesRefusal, count, ringRefusal};
+use crate::head::HEAD;
+use crate::head::HeadBits;
+use crate::head::STRIDE;
 use crate::head::head_of;
 use crate::reader::address_from;
 
@@ -105,14 +108,11 @@ pub fn addresses_refusal(members: &[u64]) -> u32
     number
 }
 
-// The refusals before the addresses, or 0.
-pub fn head_refusal(file: &[u8]) -> u32
-    ensures { λ r. ⌜ r ≡ headRefusal (now (file .entry)) ⌝ }
+// The refusals of a head in a file of `size` octets, or 0.
+pub fn field_refusal(head: HeadBits, size: usize) -> u32
+    requires { ⌜ head .others < 64 ⌝ }
+    ensures { λ r. ⌜ r ≡ fieldRefusal head size ⌝ }
 {
-    if file.len() < 2 {
-        return 1;
-    }
-    let head = head_of(file);
     if head.form != 1 {
         return 2;
     }
@@ -125,7 +125,7 @@ pub fn head_refusal(file: &[u8]) -> u32
     if head.limit == 0 {
         return 5;
     }
-    if file.len() as u64 != 2 + 6 * (head.others + 1) {
+    if size != head.octets() {
         return 1;
     }
     0
@@ -133,12 +133,12 @@ pub fn head_refusal(file: &[u8]) -> u32
 
 // Lays the addresses that a file holds over the start of an array.
 pub fn addresses_into(file: &[u8], n: usize, addresses: &mut [u64])
-    requires { ⌜ (n ≤ 64) × (n ≤ length (now addresses)) × (16 + n * 48 ≤ length (now file) * 8) ⌝ }
+    requires { ⌜ (n ≤ 64) × (n ≤ length (now addresses)) × (fileOctets n ≤ length (now file)) ⌝ }
     ensures { λ _. ⌜ now (addresses .exit) ≡ laid (now (addresses .entry)) 0 (addressesOf (now (file .entry)) n) ⌝ }
 {
     let mut i = 0;
     while i < n {
-        addresses[i] = address_from(file, 16 + i * 48);
+        addresses[i] = address_from(file, (HEAD + STRIDE * i) * 8);
         i += 1;
     }
 }
@@ -148,11 +148,15 @@ pub fn read_into(file: &[u8], addresses: &mut [u64]) -> u32
     requires { ⌜ 64 ≤ length (now addresses) ⌝ }
     ensures { λ r. ⌜ (r ≡ ringRefusal (now (file .entry))) × (r ≡ 0 → now (addresses .exit) ≡ laid (now (addresses .entry)) 0 (addressesOf (now (file .entry)) (count (now (file .entry))))) ⌝ }
 {
-    let early = head_refusal(file);
+    if file.len() < HEAD {
+        return 1;
+    }
+    let head = head_of(file);
+    let early = field_refusal(head, file.len());
     if early != 0 {
         return early;
     }
-    let n = (file.len() - 2) / 6;
+    let n = head.count();
     addresses_into(file, n, addresses);
     addresses_refusal(members(addresses, n))
 }

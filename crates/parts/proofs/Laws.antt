@@ -5,3 +5,4 @@ pub mod Live
 pub mod Messages
 pub mod Best
 pub mod Moves
+pub mod Queue

@@ -63,3 +63,8 @@ abbrev pub fit : ℕ → Frame → Bool
 fit n (Token t) = fitToken n t
 fit n (Transmit t) = fitTransmit n t
 fit n (Information i) = fitInformation i
+
+-- a frame `from` with the number k acknowledges the awaited one: it is from its addressee, with the number after its own
+unfoldable pub acknowledges : Dispatch → ℕ → ℕ → Bool
+acknowledges Nothing from k = false
+acknowledges (Sent frame to) from k = pick (eqb from to) (eqb k (next (numberOf frame))) false

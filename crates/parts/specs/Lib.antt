@@ -3,3 +3,4 @@ pub mod Moves
 pub mod Messages
 pub mod Live
 pub mod Frames
+pub mod Refusals

@@ -6,6 +6,8 @@ use lib.ListN.{getD, set, replicate}
 use lib.Dec.{ltb}
 use Rattle.parts.specs.Choose.{pick}
 use Rattle.parts.specs.declared.live.Live.{Live}
+use Rattle.parts.specs.declared.frame.Whom.{Whom}
+use Rattle.parts.specs.declared.frame.Whom.the-variants.{Nobody, Member}
 
 abbrev pub liveAt : Live → ℕ → Bool
 liveAt l p = getD (l .on) p false
@@ -34,3 +36,7 @@ seek l n self (suc k) p = pick (liveAt l (after n p)) (after n p) (seek l n self
 -- of the n - 1 others, in ring order
 unfoldable pub successor : Live → ℕ → ℕ → ℕ
 successor l n p = seek l n p (n - 1) p
+
+-- a station is newly struck if it was live
+unfoldable pub newly : Live → ℕ → Whom
+newly l p = pick (liveAt l p) (Member p) Nobody

@@ -2,6 +2,8 @@
 ghost use mathlib.Core.Path.{_≡_};
 ghost use Rattle.parts.specs.Frames.{
   numberOf,
+  failingOf,
+  acknowledges,
   next,
   flightIn,
   flight,
@@ -67,7 +69,7 @@ pub fn number_of(f: Frame) -> u16
 }
 
 // The number after `k`: after 65,535 comes 0.
-pub fn next_number(k: u16) -> u16
+pub fn next(k: u16) -> u16
     ensures { λ r. ⌜ r ≡ next k ⌝ }
 {
     std::num::wrapping_add_u16(k, 1)
@@ -93,7 +95,7 @@ fn flight_in(f: Frame) -> Flight
 }
 
 // Which message an awaited frame has in flight.
-pub fn flight_of(d: Dispatch) -> Flight
+pub fn flight(d: Dispatch) -> Flight
     ensures { λ r. ⌜ r ≡ flight d ⌝ }
 {
     match d {
@@ -152,12 +154,41 @@ fn fit_information(i: InformationFrame) -> bool
 }
 
 // Whether a frame is fit to write on a ring of `n`.
-pub fn is_fit(n: u8, f: Frame) -> bool
+pub fn fit(n: u8, f: Frame) -> bool
     ensures { λ r. ⌜ r ≡ fit n f ⌝ }
 {
     match f {
         Frame::Token(t) => fit_token(n, t),
         Frame::Transmit(t) => fit_transmit(n, t),
         Frame::Information(i) => fit_information(i),
+    }
+}
+
+// Whom a frame names as failing: only a token does.
+pub fn failing_of(f: Frame) -> Whom
+    ensures { λ r. ⌜ r ≡ failingOf f ⌝ }
+{
+    match f {
+        Frame::Token(t) => t.failing,
+        Frame::Transmit(_) => Whom::Nobody,
+        Frame::Information(_) => Whom::Nobody,
+    }
+}
+
+// Whether a frame `from` with the number `k` acknowledges the awaited one.
+pub fn acknowledges(awaited: Dispatch, from: u8, k: u16) -> bool
+    ensures { λ r. ⌜ r ≡ acknowledges awaited from k ⌝ }
+{
+    match awaited {
+        Dispatch::Nothing => false,
+        Dispatch::Sent { frame, to } => {
+            if from == to {
+                let own = number_of(frame);
+                let next = next(own);
+                k == next
+            } else {
+                false
+            }
+        }
     }
 }

@@ -100,7 +100,7 @@ pub fn push(l: Messages, m: Message) -> Messages
     l
 }
 
-pub fn in_flight(f: Flight, m: Message) -> bool
+pub fn flies(f: Flight, m: Message) -> bool
     ensures { λ r. ⌜ r ≡ flies f m ⌝ }
 {
     if f.on { f.place == m.place } else { false }
@@ -110,9 +110,9 @@ pub fn suits(w: Which, m: Message) -> bool
     ensures { λ r. ⌜ r ≡ fits w m ⌝ }
 {
     match w {
-        Which::AnyWaiting(f) => !in_flight(f, m),
-        Which::WaitingFor(f, p) => { if in_flight(f, m) { false } else { m.other == p } }
-        Which::WaitingForOthers(f, p) => { if in_flight(f, m) { false } else { m.other != p } }
+        Which::AnyWaiting(f) => !flies(f, m),
+        Which::WaitingFor(f, p) => { if flies(f, m) { false } else { m.other == p } }
+        Which::WaitingForOthers(f, p) => { if flies(f, m) { false } else { m.other != p } }
         Which::HasPlace(p) => m.place == p,
         Which::OnChannel(c) => m.channel as usize == c,
     }
@@ -159,7 +159,7 @@ pub fn choose(l: Messages, w: Which) -> Best
 }
 
 // Whether a message is one of those that suit, where `fitting`, or of the others.
-pub fn is_among(w: Which, fitting: bool, m: Message) -> bool
+pub fn among(w: Which, fitting: bool, m: Message) -> bool
     ensures { λ r. ⌜ r ≡ among w fitting m ⌝ }
 {
     if fitting { suits(w, m) } else { !suits(w, m) }
@@ -190,7 +190,7 @@ pub fn chosen(l: Messages, w: Which, fitting: bool) -> Messages
     let mut i: usize = 0;
     while i < n {
         let m = l.items[i];
-        let b = is_among(w, fitting, m);
+        let b = among(w, fitting, m);
         let v = slot(b, m);
         items[k] = v;
         k = grown(b, k);

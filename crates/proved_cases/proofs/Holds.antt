@@ -9,14 +9,14 @@ use Rattle.parts.specs.Live.{full, after, seek, successor}
 use Rattle.parts.specs.Messages.{pack, pushed, fits, only, splitBy, betterOf, bestOf, best, hasPlace, freeFrom, lowestFree}
 use Rattle.station.specs.Stations.{addUpTo, head, moved, unless}
 use Rattle.station.specs.Start.{started, startRule}
-use Rattle.plain_rules.specs.Round.{startRound, sendHead, grant, returned, cleared, raised, passOn, onToken, reply}
+use Rattle.sent.specs.Round.{startRound, sendHead, grant, returned, cleared, raised, passOn, onToken, reply}
 use Rattle.station.specs.Heard.{acknowledged, landed, acknowledge, strikeOther, strikeHeard, failed, isLast, nothingMore, receive, stored, handle, respond, heard, frameRule}
-use Rattle.plain_rules.specs.Refusals.{heardRefusal}
-use Rattle.plain_rules.specs.Heard.{acknowledges}
+use Rattle.parts.specs.Refusals.{heardRefusal}
+use Rattle.parts.specs.Frames.{acknowledges}
 use Rattle.station.specs.Strike.{giveUpTo, giveUpAt, giveUpFlight}
-use Rattle.plain_rules.specs.Heard.{newly}
+use Rattle.parts.specs.Live.{newly}
 use Rattle.station.specs.Queue.{accepted, queueRule}
-use Rattle.plain_rules.specs.Refusals.{queueRefusal}
+use Rattle.parts.specs.Refusals.{queueRefusal}
 use Rattle.bench.specs.Ring.{nobody, onWire, startAt, startDown, ringWith}
 use Rattle.bench.specs.Calls.{queue}
 use Rattle.bench.specs.Delivery.{handed, delivered, replyOf, deliverTo, stepOn, step, steps}

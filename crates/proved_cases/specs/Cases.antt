@@ -9,8 +9,8 @@ use Rattle.packet_codec.specs.Packet.{information, wireOctets}
 use Rattle.parts.specs.declared.frame.Whom.the-variants.{Nobody}
 use Rattle.parts.specs.declared.frame.Frame.the-variants.{Token}
 use Rattle.parts.specs.declared.frame.Dispatch.the-variants.{Sent}
-use Rattle.plain_rules.specs.Heard.{acknowledges}
-use Rattle.plain_rules.specs.Round.{opening}
+use Rattle.parts.specs.Frames.{acknowledges}
+use Rattle.sent.specs.Round.{opening}
 use Rattle.bench.specs.Calls.{queue}
 use Rattle.bench.specs.Runs.{queued, stepping}
 use Rattle.bench.specs.Text.{lineFeed, text}

@@ -1,6 +1,7 @@
 -- The record's layout: the place of each field, said once. A field begins where the one before it ends: at that one's place plus its
 -- width, so that no number but the widths stands here.
 use Prim.Native.Nat.{ℕ, _+_, _*_}
+use Rattle.codec.specs.Ring.{fileOctets}
 use Rattle.codec.specs.Sizes.{mostInformation}
 
 -- ---- in an awaited frame, from its first octet on
@@ -74,7 +75,7 @@ listLength = itemsIn + itemsLength
 
 -- the ring file's octets, and zeros behind them up to the longest ring file's length
 abbrev pub ringRoom : ℕ
-ringRoom = 386
+ringRoom = fileOctets 64
 
 abbrev pub ownAt : ℕ
 ownAt = ringRoom

@@ -1,13 +1,14 @@
 -- The record: a station of a ring in octets. The ring file's and zeros up to the longest ring file's length, then the station's fields,
 -- every octet fixed. "A record is whole if it reads by docs/'s layout, length included; its ring is good; ..."
-use Prim.Native.Nat.{ℕ, _+_, _-_, _*_}
+use Prim.Native.Nat.{ℕ, _-_}
+use mathlib.Core.Path.{_≡_}
 use mathlib.Core.Bool.{Bool, true, false, not}
 use mathlib.Core.List.{List, [], _∷_, _++_}
 use lib.Dec.{eqb}
 use lib.ListN.{length, take}
 use Rattle.codec.specs.Order.{firstOf}
 use Rattle.codec.specs.Octets.{octets, numberAt, zeros, firstNonzero}
-use Rattle.codec.specs.Ring.{Ring, RingRead, count, readRing, noRing}
+use Rattle.codec.specs.Ring.{Ring, RingRead, count, fileOctets, readRing, noRing}
 use Rattle.parts.specs.Choose.{allOf}
 use Rattle.station.specs.Stations.{made}
 use Rattle.wholeness.specs.Whole.{whole}
@@ -42,7 +43,7 @@ recordOctets file s = ringOctets file ++ stationOctets s
 
 -- the ring file says how long it is
 abbrev pub fileLength : List ℕ → ℕ
-fileLength s = 2 + 6 * count s
+fileLength s = fileOctets (count s)
 
 abbrev pub fileOf : List ℕ → List ℕ
 fileOf s = take (fileLength s) s
@@ -81,14 +82,9 @@ fieldsGood s = allOf (padGood s ∷ turnGood s ∷ flagsGood s liveAt 64 ∷ [])
 unfoldable pub restsGood : List ℕ → Bool
 restsGood s = allOf (restGood s sendsAt ∷ restGood s receivesAt ∷ [])
 
--- the ring of a record whose octets are good, whatever its station; without members where they are not
-unfoldable pub goodRing : List ℕ → Ring
-goodRing s =
-    firstOf (ringFrom s .ring)
-    ((not (eqb (length s) recordLength), noRing 0 .ring)
-    ∷ (not (fieldsGood s), noRing 0 .ring)
-    ∷ (not (restsGood s), noRing 0 .ring)
-    ∷ [])
+-- the octets of a record are good, whatever its station
+unfoldable pub octetsGood : List ℕ → Bool
+octetsGood s = allOf (eqb (ringFrom s .number) 0 ∷ fieldsGood s ∷ restsGood s ∷ [])
 
 -- what reading a record gives: the station and its ring, or that the record is not whole
 pub record Loaded : Type 0 where
@@ -108,3 +104,8 @@ readRecord s =
     ∷ (not (fieldsGood s), notWhole)
     ∷ (not (whole (stationOf s)), notWhole)
     ∷ [])
+
+-- what opening a record leaves: its station, without members where the record is not whole, and their addresses first in an array
+pub record Opened (s addresses : List ℕ) (st : Station) : Type 0 where
+  pub station : st ≡ readRecord s .station
+  pub members : take (st .n) addresses ≡ take (readRecord s .ring .n) (readRecord s .ring .addresses)

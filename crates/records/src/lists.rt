@@ -57,7 +57,7 @@ pub fn rest_good(s: &[u8], at: usize) -> bool
 }
 
 // The first k messages from a place on, one behind the other, then blanks.
-pub fn items_at(s: &[u8], at: usize, k: usize) -> [Message; 16]
+pub fn first_items(s: &[u8], at: usize, k: usize) -> [Message; 16]
     requires { ⌜ (at + itemsLength ≤ length (now s)) × (k ≤ 16) ⌝ }
     ensures { λ r. ⌜ r ≡ firstItems (now (s .entry)) at k ⌝ }
 {
@@ -76,7 +76,7 @@ pub fn messages_at(s: &[u8], at: usize) -> Messages
     ensures { λ r. ⌜ r ≡ messagesAt (now (s .entry)) at ⌝ }
 {
     let k = count_at(s, at);
-    let items = items_at(s, at + ITEMS_IN, k);
+    let items = first_items(s, at + ITEMS_IN, k);
     Messages {
         items,
         len: get(s, at, 1) as usize,

@@ -44,7 +44,7 @@ fn greater(a: u8, b: u8) -> u8
 }
 
 // The greatest octet of the live set.
-fn greatest_flag(s: &[u8]) -> u8
+fn greatest(s: &[u8]) -> u8
     requires { ⌜ recordLength ≤ length (now s) ⌝ }
     ensures { λ r. ⌜ r ≡ greatest (now (s .entry)) liveAt 64 ⌝ }
 {
@@ -62,7 +62,7 @@ pub fn flags_good(s: &[u8]) -> bool
     requires { ⌜ recordLength ≤ length (now s) ⌝ }
     ensures { λ r. ⌜ r ≡ flagsGood (now (s .entry)) liveAt 64 ⌝ }
 {
-    greatest_flag(s) < 2
+    greatest(s) < 2
 }
 
 pub fn put_live(out: &mut [u8], live: Live)

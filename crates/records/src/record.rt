@@ -3,9 +3,9 @@ ghost use mathlib.Core.Path.{_≡_};
 ghost use mathlib.Core.Bool.{true};
 ghost use mathlib.Core.List.{_++_};
 ghost use Prim.Native.Nat.{_+_, _≤_};
-ghost use lib.ListN.{length, take};
+ghost use lib.ListN.{length};
 ghost use Rattle.codec.specs.Octets.{laid};
-ghost use Rattle.codec.specs.Ring.{limit};
+ghost use Rattle.codec.specs.Ring.{count, addressesOf};
 ghost use Rattle.station.specs.Stations.{made};
 ghost use Rattle.records.specs.Layout.{ownAt, sendsAt, recordLength, ringRoom};
 ghost use Rattle.records.specs.Fields.{turnOctets, liveOctets, messagesOctets};
@@ -17,11 +17,13 @@ ghost use Rattle.records.specs.Record.{
   ringOctets,
   recordOctets,
   fileLength,
+  fileOf,
   padGood,
   stationFrom,
   fieldsGood,
   restsGood,
-  goodRing,
+  octetsGood,
+  Opened,
 };
 use crate::fields::put_two;
 use crate::layout::GIVEN_UP;
@@ -50,15 +52,7 @@ use parts::live::Live;
 use station::station::Counts;
 use station::station::Station;
 use station::station::Turn;
-
-// How long the ring file is, by its own N.
-pub fn file_length(s: &[u8]) -> usize
-    requires { ⌜ recordLength ≤ length (now s) ⌝ }
-    ensures { λ r. ⌜ (r ≡ fileLength (now (s .entry))) × (r ≤ ringRoom) ⌝ }
-{
-    let more = head_of(s).others as usize;
-    2 + 6 * (more + 1)
-}
+use wholeness::whole::whole;
 
 // Whether only zeros follow the ring file, which has `n` octets.
 pub fn pad_good(s: &[u8], n: usize) -> bool
@@ -93,26 +87,19 @@ pub fn rests_good(s: &[u8]) -> bool
     rest_good(s, RECEIVES)
 }
 
-// Reads the ring of a record over the start of an array and gives how many members it has: 0 where an
-// octet of the record is not good.
-pub fn ring_into(s: &[u8], addresses: &mut [u64]) -> usize
-    requires { ⌜ 64 ≤ length (now addresses) ⌝ }
-    ensures { λ r. ⌜ (r ≡ goodRing (now (s .entry)) .n) × (take r (now (addresses .exit)) ≡ take r (goodRing (now (s .entry)) .addresses)) ⌝ }
+// Whether every octet of a record is good, whose ring file has `end` of them. The ring's addresses go over the
+// start of an array.
+pub fn octets_good(s: &[u8], end: usize, addresses: &mut [u64]) -> bool
+    requires { ⌜ (length (now s) ≡ recordLength) × ((end ≡ fileLength (now s)) × (64 ≤ length (now addresses))) ⌝ }
+    ensures { λ r. ⌜ (r ≡ octetsGood (now (s .entry))) × (r ≡ true → now (addresses .exit) ≡ laid (now (addresses .entry)) 0 (addressesOf (fileOf (now (s .entry))) (count (fileOf (now (s .entry)))))) ⌝ }
 {
-    if s.len() != RECORD {
-        return 0;
-    }
-    let end = file_length(s);
     if codec::ring::read_into(&s[..end], addresses) != 0 {
-        return 0;
+        return false;
     }
     if !fields_good(s, end) {
-        return 0;
+        return false;
     }
-    if !rests_good(s) {
-        return 0;
-    }
-    (end - 2) / 6
+    rests_good(s)
 }
 
 pub fn counts_at(s: &[u8]) -> Counts
@@ -125,10 +112,10 @@ pub fn counts_at(s: &[u8]) -> Counts
     }
 }
 
-// The station that the fields give, of a ring of `n`.
-pub fn station_from(s: &[u8], n: usize) -> Station
+// The station that the fields give, of a ring of `n` with the retry limit `limit`.
+pub fn station_from(s: &[u8], n: usize, limit: u8) -> Station
     requires { ⌜ (recordLength ≤ length (now s)) × (n ≤ 64) × (restsGood (now s) ≡ true) ⌝ }
-    ensures { λ r. ⌜ r ≡ stationFrom (now (s .entry)) n (limit (now (s .entry))) ⌝ }
+    ensures { λ r. ⌜ r ≡ stationFrom (now (s .entry)) n limit ⌝ }
 {
     let live = live_from(s);
     let sends = messages_at(s, SENDS);
@@ -137,7 +124,7 @@ pub fn station_from(s: &[u8], n: usize) -> Station
     let counts = counts_at(s);
     Station {
         n: n as u8,
-        limit: codec::bits::bits(s, 10, 4) as u8,
+        limit,
         own: get(s, OWN, 1) as u8,
         live,
         sends,
@@ -145,6 +132,26 @@ pub fn station_from(s: &[u8], n: usize) -> Station
         turn,
         counts,
     }
+}
+
+// The station of a record, and its ring's addresses over the start of an array: a station without members
+// where the record is not whole.
+pub fn open(s: &[u8], addresses: &mut [u64]) -> Station
+    requires { ⌜ 64 ≤ length (now addresses) ⌝ }
+    ensures { λ r. ⌜ Opened (now (s .entry)) (now (addresses .exit)) r ⌝ }
+{
+    if s.len() != RECORD {
+        return Station::new(0, 0, 0);
+    }
+    let head = head_of(s);
+    if !octets_good(s, head.octets(), addresses) {
+        return Station::new(0, 0, 0);
+    }
+    let station = station_from(s, head.count(), head.limit as u8);
+    if !whole(station) {
+        return Station::new(0, 0, 0);
+    }
+    station
 }
 
 // Own position, turn, counts and live set.

@@ -1,13 +1,13 @@
-// What a driver in C calls of a station: each call of the crate `shell`, with its contract, under the name that C links.
+// What a driver in C calls of a station: each call of the crate `driver_calls`, with its contract, under the name that C links.
 ghost use lib.ListN.{length};
-ghost use Rattle.shell.specs.Calls.{Making, Starting, Hearing, Timing, ringIn, requestOf, Queueing, Taking};
+ghost use Rattle.driver_calls.specs.Calls.{Making, Starting, Hearing, Timing, ringIn, requestOf, Queueing, Taking};
 
 // Makes a station's record of a ring file and the station's own address.
 #[no_mangle]
 pub extern "C" fn rtep_make(rec: &mut [u8], file: &[u8], own: u64) -> u32
     ensures { λ r. ⌜ Making (now (rec .entry)) (now (file .entry)) own r (now (rec .exit)) ⌝ }
 {
-    shell::making::make(rec, file, own)
+    driver_calls::making::make(rec, file, own)
 }
 
 // The station starts.
@@ -15,7 +15,7 @@ pub extern "C" fn rtep_make(rec: &mut [u8], file: &[u8], own: u64) -> u32
 pub extern "C" fn rtep_start(rec: &mut [u8], out: &mut [u8], told: &mut [u64; 84]) -> u32
     ensures { λ r. ⌜ Starting (now (rec .entry)) (now (out .entry)) (now (told .entry)) r (now (rec .exit)) (now (out .exit)) (now (told .exit)) ⌝ }
 {
-    shell::sending::start(rec, out, told)
+    driver_calls::sending::start(rec, out, told)
 }
 
 // A frame is heard.
@@ -31,7 +31,7 @@ pub extern "C" fn rtep_frame(
 ) -> u32
     ensures { λ r. ⌜ Hearing (now (rec .entry)) (now (store .entry)) from to (now (packet .entry)) (now (out .entry)) (now (told .entry)) r (now (rec .exit)) (now (store .exit)) (now (out .exit)) (now (told .exit)) ⌝ }
 {
-    shell::hearing::frame(rec, store, from, to, packet, out, told)
+    driver_calls::hearing::frame(rec, store, from, to, packet, out, told)
 }
 
 // The timer of the station runs.
@@ -44,7 +44,7 @@ pub extern "C" fn rtep_timer(
 ) -> u32
     ensures { λ r. ⌜ Timing (now (rec .entry)) (now (store .entry)) (now (out .entry)) (now (told .entry)) r (now (rec .exit)) (now (out .exit)) (now (told .exit)) ⌝ }
 {
-    shell::sending::timer(rec, store, out, told)
+    driver_calls::sending::timer(rec, store, out, told)
 }
 
 // A message is handed over.
@@ -59,7 +59,7 @@ pub extern "C" fn rtep_queue(
 ) -> u32
     ensures { λ r. ⌜ Queueing (now (rec .entry)) (now (store .entry)) (requestOf (ringIn (now (rec .entry))) to priority channel (length (now (payload .entry)))) (now (payload .entry)) r (now (rec .exit)) (now (store .exit)) ⌝ }
 {
-    shell::queueing::queue(rec, store, to, priority, channel, payload)
+    driver_calls::queueing::queue(rec, store, to, priority, channel, payload)
 }
 
 // The best message of a channel is taken.
@@ -73,5 +73,5 @@ pub extern "C" fn rtep_take(
 ) -> u32
     ensures { λ r. ⌜ Taking (now (rec .entry)) (now (store .entry)) channel (now (room .entry)) (now (told .entry)) r (now (rec .exit)) (now (room .exit)) (now (told .exit)) ⌝ }
 {
-    shell::taking::take(rec, store, channel, room, told)
+    driver_calls::taking::take(rec, store, channel, room, told)
 }

@@ -59,13 +59,13 @@ pub extern "C" fn rtep_ring(file: &[u8], told: &mut [u64; 66]) -> u32
         return number;
     }
     let head = head_of(file);
-    let n = head.others as usize + 1;
+    let n = head.count();
     tell_ring(told, head.limit, members(&addresses, n));
     0
 }
 
 // The eight numbers of the packet that the octets make: identifier, priority, number, master, failing, named, channel, length.
-pub fn values_in(s: &[u8]) -> [u64; 8]
+pub fn values_of(s: &[u8]) -> [u64; 8]
     requires { ⌜ shortPacket ≤ length (now s) ⌝ }
     ensures { λ r. ⌜ r ≡ valuesOf (packetOf (now (s .entry))) ⌝ }
 {
@@ -118,7 +118,7 @@ pub extern "C" fn rtep_read(ring: &[u64], packet: &[u8], told: &mut [u64; 8]) ->
     if number != 0 {
         return number;
     }
-    *told = values_in(packet);
+    *told = values_of(packet);
     0
 }
 

@@ -74,7 +74,7 @@ fn take_in(b: State, block: &[u8], out: &mut [u8]) -> State
         let l = held.line();
         held = Held::none();
         used = make_room(&*out, used);
-        if script::session::is_refused(session.begun, l) {
+        if script::session::refuses(session.begun, l) {
             used = script::session::refuse(&mut *out, used);
             continue;
         }

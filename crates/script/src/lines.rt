@@ -100,7 +100,7 @@ pub fn join(n: Numbers, v: usize) -> Numbers
 }
 
 // The words behind the place `at`, where a word ends.
-pub fn numbers_behind(s: &[u8], at: usize) -> Numbers
+pub fn numbers_of(s: &[u8], at: usize) -> Numbers
     ensures { λ r. ⌜ r ≡ numbersOf (drop at (now (s .entry))) ⌝ }
 {
     let mut n = Numbers {
@@ -122,11 +122,11 @@ pub fn numbers_behind(s: &[u8], at: usize) -> Numbers
 }
 
 // The line that the octets say.
-pub fn read_line(s: &[u8]) -> Line
+pub fn line_of(s: &[u8]) -> Line
     ensures { λ r. ⌜ r ≡ lineOf (now (s .entry)) ⌝ }
 {
     let k = word_length(s);
-    let n = numbers_behind(s, k);
+    let n = numbers_of(s, k);
     if !n.good {
         return Line::Bad;
     }

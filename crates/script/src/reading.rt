@@ -49,9 +49,9 @@ impl Held {
         let len = self.len;
         let octets = self.octets;
         if len <= 40 {
-            return crate::lines::read_line(&octets[..len]);
+            return crate::lines::line_of(&octets[..len]);
         }
-        crate::lines::read_line(&octets)
+        crate::lines::line_of(&octets)
     }
 }
 

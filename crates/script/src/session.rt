@@ -32,7 +32,7 @@ pub struct Acted {
 pub const ROOM: usize = 64;
 
 // An N of 2 to 64, and no ring before.
-pub fn opens_ring(begun: bool, n: usize) -> bool
+pub fn opens(begun: bool, n: usize) -> bool
     ensures { λ r. ⌜ r ≡ opens begun n ⌝ }
 {
     if begun {
@@ -45,12 +45,12 @@ pub fn opens_ring(begun: bool, n: usize) -> bool
 }
 
 // Whether a line only prints `bad line`.
-pub fn is_refused(begun: bool, l: Line) -> bool
+pub fn refuses(begun: bool, l: Line) -> bool
     ensures { λ r. ⌜ r ≡ refuses begun l ⌝ }
 {
     match l {
         Line::Bad => true,
-        Line::Ring(n) => !opens_ring(begun, n),
+        Line::Ring(n) => !opens(begun, n),
         Line::Queue {
             from: _,
             request: _,
@@ -169,7 +169,7 @@ impl Session {
                 done: false,
             };
         }
-        if is_refused(self.begun, l) {
+        if refuses(self.begun, l) {
             return self.turn_down(&mut *out, at);
         }
         match l {

@@ -7,8 +7,8 @@ use Rattle.parts.specs.Moves.{moveOf, runs}
 use Rattle.parts.specs.Messages.{best}
 use Rattle.parts.specs.Live.{without, successor}
 use Rattle.parts.specs.Frames.{numberOf, flight, noFlight, failingOf}
-use Rattle.plain_rules.specs.Round.{reply, startRound}
-use Rattle.plain_rules.specs.Resend.{resend}
+use Rattle.sent.specs.Round.{reply, startRound}
+use Rattle.sent.specs.Resend.{resend}
 use Rattle.station.specs.Stations.{stateOf, awaitedOf, quietTurn, sendingTurn}
 use Rattle.station.specs.Heard.{checks, acknowledged, stops, heardMessage}
 use Rattle.station.specs.Deeds.{verdict, refused, turned}
@@ -24,7 +24,7 @@ use Rattle.parts.specs.declared.frame.Frame.{Frame}
 use Rattle.parts.specs.declared.frame.Frame.the-variants.{Token, Transmit, Information}
 use Rattle.parts.specs.declared.frame.Dispatch.{Dispatch}
 use Rattle.parts.specs.declared.frame.Dispatch.the-variants.{Nothing}
-use Rattle.plain_rules.specs.declared.round.Sight.{Sight}
+use Rattle.sent.specs.declared.round.Sight.{Sight}
 use Rattle.station.specs.declared.station.Handled.the-variants.{Last}
 use Rattle.station.specs.declared.station.Turn.{Turn}
 use Rattle.station.specs.declared.station.Station.{Station}

@@ -6,7 +6,7 @@ use Rattle.parts.specs.Choose.{pick}
 use Rattle.parts.specs.Messages.{none, pushed, splitBy, best}
 use Rattle.parts.specs.Live.{without}
 use Rattle.parts.specs.Frames.{noFlight}
-use Rattle.plain_rules.specs.Heard.{newly}
+use Rattle.parts.specs.Live.{newly}
 use Rattle.station.specs.Stations.{stationBy, withTurn, addUpTo}
 use Rattle.parts.specs.declared.live.Live.{Live}
 use Rattle.parts.specs.declared.list.Message.{Message}

@@ -9,12 +9,13 @@ use Rattle.parts.specs.Moves.{isIdle, isWaiting}
 use Rattle.parts.specs.Messages.{none, all, pushed, lowestFree}
 use Rattle.parts.specs.Live.{liveAt}
 use Rattle.parts.specs.Frames.{numberOf, flight, failingOf}
-use Rattle.plain_rules.specs.Refusals.{heardRefusal}
+use Rattle.parts.specs.Refusals.{heardRefusal}
 use Rattle.station.specs.Stations.{stateOf, awaitedOf, withReceives, withLost, quiet, sending, addUpTo, alone, moved, unless}
-use Rattle.station.specs.Round.{sight}
-use Rattle.plain_rules.specs.Round.{reply}
+use Rattle.station.specs.Sight.{sight}
+use Rattle.sent.specs.Round.{reply}
 use Rattle.station.specs.Strike.{Struck, strike, nothingGone, giveUpTo, leave, told, stopped}
-use Rattle.plain_rules.specs.Heard.{acknowledges, newly}
+use Rattle.parts.specs.Frames.{acknowledges}
+use Rattle.parts.specs.Live.{newly}
 use Rattle.parts.specs.declared.moves.State.the-variants.{Idle, Alone, Excluded}
 use Rattle.parts.specs.declared.moves.Event.the-variants.{Heard}
 use Rattle.parts.specs.declared.list.Message.{Message}
@@ -139,7 +140,10 @@ respond k from to f = pick (nothingMore (k .station) to (numberOf f)) (silent k)
 -- ---- the five in order
 
 unfoldable pub heard : Station → Frame → ℕ → ℕ → Answer
-heard s f from to = respond (failed (acknowledge s from (numberOf f)) (failingOf f)) from to f
+heard s f from to =
+    let acknowledging : Station = acknowledge s from (numberOf f) in
+    let striking : Struck = failed acknowledging (failingOf f) in
+    respond striking from to f
 
 unfoldable pub frameRule : Station → Frame → ℕ → ℕ → Answer
 frameRule s f from to = moved s Heard (unless s (checks s from to) (heard s f from to))

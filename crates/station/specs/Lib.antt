@@ -1,5 +1,5 @@
 pub mod Stations
-pub mod Round
+pub mod Sight
 pub mod Strike
 pub mod Start
 pub mod Heard

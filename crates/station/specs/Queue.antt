@@ -3,7 +3,7 @@ use Prim.Native.Nat.{ℕ}
 use Rattle.parts.specs.Choose.{pick}
 use Rattle.parts.specs.Messages.{none, all, pushed, lowestFree, messageFor}
 use Rattle.parts.specs.Live.{liveAt}
-use Rattle.plain_rules.specs.Refusals.{queueRefusal}
+use Rattle.parts.specs.Refusals.{queueRefusal}
 use Rattle.station.specs.Stations.{withSends, moved, unless}
 use Rattle.parts.specs.declared.moves.Event.the-variants.{Queue}
 use Rattle.parts.specs.declared.list.Message.{Message}

@@ -4,8 +4,8 @@ use lib.Dec.{eqb}
 use Rattle.parts.specs.Choose.{pick}
 use Rattle.parts.specs.Frames.{next}
 use Rattle.station.specs.Stations.{answered, moved, quiet, sending}
-use Rattle.station.specs.Round.{sight}
-use Rattle.plain_rules.specs.Round.{startRound}
+use Rattle.station.specs.Sight.{sight}
+use Rattle.sent.specs.Round.{startRound}
 use Rattle.parts.specs.declared.moves.State.the-variants.{Idle}
 use Rattle.parts.specs.declared.moves.Event.the-variants.{Start}
 use Rattle.parts.specs.declared.frame.Whom.the-variants.{Nobody}

@@ -3,7 +3,7 @@ use mathlib.Core.Bool.{Bool}
 use Prim.Native.Nat.{ℕ}
 use Rattle.parts.specs.Choose.{pick}
 use Rattle.parts.specs.Messages.{none, best, splitBy}
-use Rattle.plain_rules.specs.Refusals.{takeRefusal}
+use Rattle.parts.specs.Refusals.{takeRefusal}
 use Rattle.station.specs.Stations.{withReceives, moved, unless}
 use Rattle.parts.specs.declared.moves.Event.the-variants.{Take}
 use Rattle.parts.specs.declared.list.Message.{Message}

@@ -5,11 +5,11 @@ use lib.Dec.{ltb}
 use Rattle.parts.specs.Choose.{pick}
 use Rattle.parts.specs.Messages.{none}
 use Rattle.parts.specs.Frames.{next}
-use Rattle.plain_rules.specs.Resend.{resend}
+use Rattle.sent.specs.Resend.{resend}
 use Rattle.station.specs.Stations.{withTurn, moreTurn, awaitedOf, quiet, sending, alone, answered, moved}
-use Rattle.station.specs.Round.{sight}
+use Rattle.station.specs.Sight.{sight}
 use Rattle.station.specs.Strike.{Struck, strike, giveUpTo, giveUpFlight, told}
-use Rattle.plain_rules.specs.Heard.{newly}
+use Rattle.parts.specs.Live.{newly}
 use Rattle.parts.specs.declared.moves.State.the-variants.{Idle, Alone}
 use Rattle.parts.specs.declared.moves.Event.the-variants.{Timer}
 use Rattle.parts.specs.declared.frame.Whom.{Whom}

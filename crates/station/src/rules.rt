@@ -2,7 +2,7 @@
 pub mod deeds;
 pub mod heard;
 pub mod queue;
-pub mod round;
+pub mod sight;
 pub mod start;
 pub mod take;
 pub mod timer;

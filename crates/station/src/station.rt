@@ -139,7 +139,7 @@ pub fn add_up_to(c: u32, k: usize) -> u32
 }
 
 // An answer of a number alone.
-pub fn number_alone(s: Station, number: u32) -> Answer
+pub fn answered(s: Station, number: u32) -> Answer
     ensures { λ r. ⌜ r ≡ answered s number ⌝ }
 {
     let gone = parts::list::empty();
@@ -154,10 +154,10 @@ pub fn number_alone(s: Station, number: u32) -> Answer
 }
 
 // Whether nobody else is left.
-pub fn is_alone(s: Station) -> bool
+pub fn alone(s: Station) -> bool
     ensures { λ r. ⌜ r ≡ alone s ⌝ }
 {
-    parts::live::next_live(s.live, s.n, s.own) == s.own
+    parts::live::successor(s.live, s.n, s.own) == s.own
 }
 
 impl Station {
@@ -165,7 +165,7 @@ impl Station {
     pub fn new(n: u8, limit: u8, own: u8) -> Station
         ensures { λ r. ⌜ r ≡ made n limit own ⌝ }
     {
-        let live = parts::live::all_members(n);
+        let live = parts::live::full(n);
         let sends = parts::list::empty();
         let receives = parts::list::empty();
         let turn = Turn {

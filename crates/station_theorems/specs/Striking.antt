@@ -6,7 +6,7 @@ use Rattle.parts.specs.Moves.{moveOf, runs}
 use Rattle.parts.specs.Live.{liveAt, without}
 use Rattle.parts.specs.Frames.{failingOf}
 use Rattle.station.specs.Stations.{stateOf, awaitedOf}
-use Rattle.plain_rules.specs.Heard.{newly}
+use Rattle.parts.specs.Live.{newly}
 use Rattle.station.specs.Heard.{checks}
 use Rattle.parts.specs.declared.moves.State.the-variants.{Waiting}
 use Rattle.parts.specs.declared.moves.Event.the-variants.{Heard}

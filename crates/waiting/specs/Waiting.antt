@@ -9,7 +9,7 @@ use lib.ListN.{length}
 use Rattle.parts.specs.Choose.{pick}
 use Rattle.parts.specs.Messages.{all, flies, lowestFree}
 use Rattle.parts.specs.Frames.{flight}
-use Rattle.plain_rules.specs.Round.{informationOf}
+use Rattle.sent.specs.Round.{informationOf}
 use Rattle.station.specs.Stations.{awaitedOf}
 use Rattle.parts.specs.declared.list.Message.{Message}
 use Rattle.parts.specs.declared.request.Request.{Request}

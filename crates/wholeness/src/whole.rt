@@ -158,7 +158,7 @@ pub fn messages_good(n: u8, own: u8, l: Messages) -> bool
     true
 }
 
-pub fn places_apart(l: Messages) -> bool
+pub fn apart(l: Messages) -> bool
     ensures { λ r. ⌜ r ≡ apart [] (all l) ⌝ }
 {
     let k = parts::list::count(l);
@@ -186,16 +186,16 @@ pub fn list_good(n: u8, own: u8, l: Messages) -> bool
     if !messages_good(n, own, l) {
         return false;
     }
-    places_apart(l)
+    apart(l)
 }
 
 pub fn waits_well(live: Live, f: Flight, m: Message) -> bool
     ensures { λ r. ⌜ r ≡ waitsWell live f m ⌝ }
 {
-    if parts::list::in_flight(f, m) {
+    if parts::list::flies(f, m) {
         return true;
     }
-    parts::live::is_live(live, m.other as usize)
+    parts::live::live_at(live, m.other as usize)
 }
 
 pub fn all_wait_well(live: Live, f: Flight, l: Messages) -> bool
@@ -244,7 +244,7 @@ pub fn same_message(b: Best, to: u8, i: InformationFrame) -> bool
     true
 }
 
-pub fn is_carried(l: Messages, f: Frame, to: u8) -> bool
+pub fn carried(l: Messages, f: Frame, to: u8) -> bool
     ensures { λ r. ⌜ r ≡ carried l f to ⌝ }
 {
     match f {
@@ -264,7 +264,7 @@ pub fn frame_good(state: State, n: u8, own: u8, l: Messages, f: Frame, to: u8) -
     if !parts::moves::is_waiting(state) {
         return false;
     }
-    if !parts::frame::is_fit(n, f) {
+    if !parts::frame::fit(n, f) {
         return false;
     }
     if n <= to {
@@ -273,7 +273,7 @@ pub fn frame_good(state: State, n: u8, own: u8, l: Messages, f: Frame, to: u8) -
     if to == own {
         return false;
     }
-    is_carried(l, f, to)
+    carried(l, f, to)
 }
 
 pub fn awaited_good(state: State, n: u8, own: u8, l: Messages, d: Dispatch) -> bool
@@ -297,7 +297,7 @@ pub fn lists_good(s: Station) -> bool
 }
 
 // Whether the station is one that the rules can come to. The slots behind its messages are blank by the way it is read.
-pub fn is_whole(s: Station) -> bool
+pub fn whole(s: Station) -> bool
     requires { ⌜ (restBlank (s .sends) ≡ true) × (restBlank (s .receives) ≡ true) ⌝ }
     ensures { λ r. ⌜ r ≡ whole s ⌝ }
 {
@@ -310,13 +310,13 @@ pub fn is_whole(s: Station) -> bool
     if !seats_good(state, s.n, s.own, s.live) {
         return false;
     }
-    if !company_good(state, station::station::is_alone(s)) {
+    if !company_good(state, station::station::alone(s)) {
         return false;
     }
     if !lists_good(s) {
         return false;
     }
-    let f = parts::frame::flight_of(awaited);
+    let f = parts::frame::flight(awaited);
     if !waiters_good(state, s.live, f, s.sends) {
         return false;
     }

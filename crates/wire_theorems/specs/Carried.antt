@@ -8,12 +8,12 @@ use Rattle.parts.specs.Messages.{messageFor}
 use Rattle.parts.specs.declared.list.Message.{Message}
 use Rattle.parts.specs.declared.request.Request.{Request}
 use Rattle.station.specs.Queue.{accepted}
-use Rattle.shell.specs.Places.{fitsPlace, carriedIn}
+use Rattle.driver_buffers.specs.Places.{fitsPlace, carriedIn}
 use Rattle.wire_theorems.specs.Store.{ToSend, sendPayload}
 use Rattle.parts.specs.declared.frame.InformationFrame.{InformationFrame}
 use Rattle.parts.specs.declared.frame.Frame.the-variants.{Information}
 use Rattle.packet_codec.specs.Packet.{informationPart}
-use Rattle.shell.specs.Packets.{packetOf}
+use Rattle.driver_buffers.specs.Packets.{packetOf}
 
 -- the message of an accepted request stands in the send list, with the payload in its place, which fits
 pub record Queued (rec′ store store′ : List ℕ) (q : Request) (payload : List ℕ) (m : Message) : Type 0 where

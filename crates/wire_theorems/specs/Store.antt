@@ -8,8 +8,8 @@ use Rattle.parts.specs.Messages.{all}
 use Rattle.parts.specs.declared.list.Message.{Message}
 use Rattle.parts.specs.declared.request.Request.{Request}
 use Rattle.records.specs.Layout.{receivePlaces}
-use Rattle.shell.specs.Places.{inPlace}
-use Rattle.shell.specs.Calls.{stationIn, Starting, Hearing, Timing, Queueing, Taking}
+use Rattle.driver_buffers.specs.Places.{inPlace}
+use Rattle.driver_calls.specs.Calls.{stationIn, Starting, Hearing, Timing, Queueing, Taking}
 
 -- one call, whatever number it gives: what it makes of the record and of the store; a queue's request has its payload's length
 pub data Call : (rec store rec′ store′ : List ℕ) → Type 0 where

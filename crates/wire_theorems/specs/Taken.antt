@@ -9,12 +9,12 @@ use Rattle.packet_codec.specs.declared.packet.Packet.{Packet}
 use Rattle.packet_codec.specs.declared.reading.Read.the-variants.{Good}
 use Rattle.parts.specs.declared.list.Message.{Message}
 use Rattle.records.specs.Layout.{receivePlaces}
-use Rattle.shell.specs.Places.{fitsPlace}
-use Rattle.shell.specs.Calls.{ringIn}
+use Rattle.driver_buffers.specs.Places.{fitsPlace}
+use Rattle.driver_calls.specs.Calls.{ringIn}
 use Rattle.wire_theorems.specs.Store.{Received, receivedPayload}
 use Rattle.codec.specs.Octets.{laid}
 use Rattle.station.specs.declared.station.Payload.the-variants.{Of}
-use Rattle.shell.specs.Telling.{takenTold}
+use Rattle.driver_buffers.specs.Telling.{takenTold}
 
 -- the message that was stored stands in the receive list, with the packet's information in its place, which fits
 pub record Stored (rec rec′ store store′ packet : List ℕ) (m : Message) : Type 0 where

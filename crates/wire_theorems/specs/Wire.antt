@@ -17,10 +17,10 @@ use Rattle.packet_codec.specs.declared.reading.Read.the-variants.{Good}
 use Rattle.parts.specs.declared.frame.Frame.{Frame}
 use Rattle.parts.specs.declared.frame.Frame.the-variants.{Token, Transmit, Information}
 use Rattle.parts.specs.declared.frame.Dispatch.the-variants.{Sent}
-use Rattle.shell.specs.Packets.{addressOf, packetOf, frameOf}
-use Rattle.shell.specs.Places.{carriedIn}
-use Rattle.shell.specs.Calls.{Starting, Hearing, Timing, startAnswer, frameAnswer, timerAnswer}
-use Rattle.shell_theorems.specs.Held.{Held, by-make, by-start, by-frame, by-timer, by-queue, by-take}
+use Rattle.driver_buffers.specs.Packets.{addressOf, packetOf, frameOf}
+use Rattle.driver_buffers.specs.Places.{carriedIn}
+use Rattle.driver_calls.specs.Calls.{Starting, Hearing, Timing, startAnswer, frameAnswer, timerAnswer}
+use Rattle.driver_theorems.specs.Held.{Held, by-make, by-start, by-frame, by-timer, by-queue, by-take}
 
 -- the addresses of a good ring: of 48 bits, none zero, each at one position only
 pub record GoodAddresses (ring : List ℕ) : Type 0 where

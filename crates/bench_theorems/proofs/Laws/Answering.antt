@@ -6,8 +6,8 @@ use Rattle.parts.specs.Messages.{none}
 use Rattle.parts.specs.Live.{full, after, successor}
 use Rattle.parts.specs.Frames.{numberOf, fit, flight, noFlight}
 use Rattle.station.specs.Stations.{stateOf, awaitedOf, head}
-use Rattle.station.specs.Round.{sight}
-use Rattle.plain_rules.specs.Round.{reply}
+use Rattle.station.specs.Sight.{sight}
+use Rattle.sent.specs.Round.{reply}
 use Rattle.station.specs.Heard.{acknowledge, isLast, stored, frameRule}
 use Rattle.parts.specs.declared.moves.State.the-variants.{Idle, Waiting}
 use Rattle.parts.specs.declared.list.Best.{Best}
@@ -18,7 +18,7 @@ use Rattle.station.specs.declared.station.Handled.the-variants.{Last}
 use Rattle.station.specs.declared.station.Turn.{Turn}
 use Rattle.station.specs.declared.station.Station.{Station}
 use Rattle.station.specs.declared.station.Answer.{Answer}
-use Rattle.plain_rules.specs.declared.round.Sight.{Sight}
+use Rattle.sent.specs.declared.round.Sight.{Sight}
 use Rattle.station_theorems.specs.Shaped.{WholeStation}
 use Rattle.station_theorems.proofs.Theorems.FrameWhole.{frame-keeps-whole}
 use Rattle.bench_theorems.specs.Quiet.{Member}

@@ -7,7 +7,7 @@ use lib.Dec.{eqb}
 use borrow.Author.Tests.{eqb-true, eqb-false}
 use Rattle.parts.specs.Frames.{numberOf, failingOf}
 use Rattle.station.specs.Stations.{stateOf, awaitedOf, head}
-use Rattle.plain_rules.specs.Round.{reply}
+use Rattle.sent.specs.Round.{reply}
 use Rattle.station.specs.Heard.{isLast, frameRule}
 use Rattle.wholeness.specs.Whole.{carried}
 use Rattle.parts.specs.declared.moves.State.the-variants.{Waiting}

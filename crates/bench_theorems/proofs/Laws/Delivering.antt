@@ -4,7 +4,7 @@ use Prim.Native.Nat.{ℕ, _<_}
 use native.Mathlib.Omega.{arith}
 use lib.ListN.{length}
 use Rattle.station.specs.Stations.{head}
-use Rattle.plain_rules.specs.Round.{reply}
+use Rattle.sent.specs.Round.{reply}
 use Rattle.station.specs.Heard.{frameRule}
 use Rattle.parts.specs.declared.frame.Dispatch.{Dispatch}
 use Rattle.parts.specs.declared.frame.Dispatch.the-variants.{Sent}

@@ -13,10 +13,10 @@ use Rattle.parts.specs.Messages.{pushed}
 use Rattle.parts.specs.Live.{liveAt}
 use Rattle.parts.specs.Frames.{numberOf, failingOf, fit}
 use Rattle.station.specs.Stations.{stateOf, withReceives, withLost, addUpTo}
-use Rattle.station.specs.Round.{sight}
-use Rattle.plain_rules.specs.Round.{reply}
+use Rattle.station.specs.Sight.{sight}
+use Rattle.sent.specs.Round.{reply}
 use Rattle.station.specs.Heard.{Stored, acknowledge, isLast, nothingMore, heardMessage, receive, stored, sendOn, silent, respond, frameRule, checks}
-use Rattle.plain_rules.specs.Refusals.{heardRefusal}
+use Rattle.parts.specs.Refusals.{heardRefusal}
 use Rattle.parts.specs.declared.moves.State.the-variants.{Idle}
 use Rattle.parts.specs.declared.list.Message.{Message}
 use Rattle.parts.specs.declared.frame.Whom.the-variants.{Nobody}

@@ -14,7 +14,7 @@ use Rattle.parts.specs.Messages.{all, pushed, fits, theBest, noBest, betterOf, 
 use Rattle.parts.specs.Live.{liveAt}
 use Rattle.parts.specs.Frames.{flight}
 use Rattle.station.specs.Stations.{stateOf, awaitedOf, withSends, head, answered, moved, unless}
-use Rattle.plain_rules.specs.Round.{priorityOf}
+use Rattle.sent.specs.Round.{priorityOf}
 use Rattle.station.specs.Queue.{newMessage, accepted, queueNumber, queueRule}
 use Rattle.parts.specs.declared.moves.Event.the-variants.{Queue}
 use Rattle.parts.specs.declared.list.Message.{Message}
@@ -24,7 +24,7 @@ use Rattle.parts.specs.declared.list.Which.the-variants.{AnyWaiting}
 use Rattle.parts.specs.declared.request.Request.{Request}
 use Rattle.station.specs.declared.station.Station.{Station}
 use Rattle.parts.proofs.Laws.Messages.{best-none, best-more}
-use Rattle.plain_rules.proofs.Laws.Queue.{queue-good}
+use Rattle.parts.proofs.Laws.Queue.{queue-good}
 use Rattle.station_theorems.specs.Shaped.{WholeStation}
 use Rattle.station_theorems.proofs.Laws.Kept.{push-all}
 use Rattle.station_theorems.proofs.Laws.Carried.{best-append}

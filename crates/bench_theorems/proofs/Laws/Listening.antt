@@ -10,7 +10,7 @@ use Rattle.parts.specs.Frames.{numberOf, next, flight}
 use Rattle.station.specs.Stations.{stateOf, awaitedOf, quiet}
 use Rattle.station.specs.Strike.{leave}
 use Rattle.station.specs.Heard.{acknowledged, landed, acknowledge}
-use Rattle.plain_rules.specs.Heard.{acknowledges}
+use Rattle.parts.specs.Frames.{acknowledges}
 use Rattle.parts.specs.declared.moves.State.{State}
 use Rattle.parts.specs.declared.moves.State.the-variants.{Idle, Waiting}
 use Rattle.parts.specs.declared.moves.Event.the-variants.{Heard}

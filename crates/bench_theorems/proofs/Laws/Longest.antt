@@ -8,14 +8,14 @@ use lib.Dec.{leb}
 use borrow.Author.Tests.{le-leb, lt-leb, leb-true, leb-false}
 use Rattle.parts.specs.Live.{after}
 use Rattle.parts.specs.Frames.{fit}
-use Rattle.plain_rules.specs.Round.{opening, passing}
+use Rattle.sent.specs.Round.{opening, passing}
 use Rattle.parts.specs.declared.frame.Whom.{Whom}
 use Rattle.parts.specs.declared.frame.TokenFrame.{TokenFrame}
 use Rattle.parts.specs.declared.frame.TransmitFrame.{TransmitFrame}
 use Rattle.parts.specs.declared.frame.InformationFrame.{InformationFrame}
 use Rattle.parts.specs.declared.frame.Frame.{Frame}
 use Rattle.parts.specs.declared.frame.Frame.the-variants.{Token, Transmit, Information}
-use Rattle.plain_rules.specs.declared.round.Bid.{Bid}
+use Rattle.sent.specs.declared.round.Bid.{Bid}
 use Rattle.parts.proofs.Laws.Choose.{pick-true, pick-false}
 use Rattle.station_theorems.proofs.Laws.Sending.{passes}
 use Rattle.bench_theorems.specs.Quiet.{offset, longest}

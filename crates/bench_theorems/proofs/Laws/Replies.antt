@@ -8,7 +8,7 @@ use borrow.Author.Tests.{eqb-true, eqb-false}
 use Rattle.parts.specs.Choose.{pick}
 use Rattle.parts.specs.Live.{after}
 use Rattle.parts.specs.Frames.{numberOf, next}
-use Rattle.plain_rules.specs.Round.{priorityOf, opening, carrying, startRound, informationOf, sendHead}
+use Rattle.sent.specs.Round.{priorityOf, opening, carrying, startRound, informationOf, sendHead}
 use Rattle.parts.specs.declared.list.Best.{Best}
 use Rattle.parts.specs.declared.list.Message.{Message}
 use Rattle.parts.specs.declared.frame.Whom.{Whom}

@@ -9,8 +9,8 @@ use Rattle.parts.specs.Choose.{pick}
 use Rattle.parts.specs.Messages.{best, bestOf}
 use Rattle.parts.specs.Live.{after}
 use Rattle.station.specs.Stations.{made, quiet, answered, head}
-use Rattle.station.specs.Round.{sight}
-use Rattle.plain_rules.specs.Round.{opening, startRound}
+use Rattle.station.specs.Sight.{sight}
+use Rattle.sent.specs.Round.{opening, startRound}
 use Rattle.station.specs.Start.{sentFirst, started, startRule}
 use Rattle.parts.specs.declared.moves.State.the-variants.{Idle}
 use Rattle.parts.specs.declared.moves.Event.the-variants.{Start}
@@ -47,7 +47,7 @@ module _ (n limit : ℕ) (two : 2 ≤ n) (most : n ≤ 64) where
   unfolding started
   starts-first = starts 0 ∙ pick-true _ _ refl ∙ ap (sentFirst (made n limit 0)) first-round
 
-  starts-idle : (p : ℕ) → (p ≡ 0 → ⊥) → firstAnswer n limit p ≡ answered (quiet (made n limit p) Idle) 0
+  pub starts-idle : (p : ℕ) → (p ≡ 0 → ⊥) → firstAnswer n limit p ≡ answered (quiet (made n limit p) Idle) 0
   unfolding started
   starts-idle p o = starts p ∙ pick-false _ _ (ne-eqb p 0 o)
 

@@ -4,7 +4,7 @@ use Prim.Native.Nat.{ℕ, _<_}
 use native.Mathlib.Omega.{arith}
 use Rattle.parts.specs.Frames.{numberOf, next, flight, flightIn, noFlight}
 use Rattle.station.specs.Stations.{stateOf, awaitedOf, head}
-use Rattle.plain_rules.specs.Round.{priorityOf}
+use Rattle.sent.specs.Round.{priorityOf}
 use Rattle.station.specs.Heard.{frameRule}
 use Rattle.parts.specs.declared.frame.Frame.{Frame}
 use Rattle.parts.specs.declared.frame.Dispatch.the-variants.{Sent}

@@ -8,7 +8,7 @@ use borrow.Author.Tests.{leb-false, eqb-true, eqb-false, ltb-true}
 use Rattle.parts.specs.Choose.{pick}
 use Rattle.parts.specs.Live.{after}
 use Rattle.parts.specs.Frames.{next, fit}
-use Rattle.plain_rules.specs.Round.{priorityOf, granting, passing, grant, returned, bidOf, ownBid, cleared, raised, forward, passOn, onToken, reply}
+use Rattle.sent.specs.Round.{priorityOf, granting, passing, grant, returned, bidOf, ownBid, cleared, raised, forward, passOn, onToken, reply}
 use Rattle.parts.specs.declared.list.Best.{Best}
 use Rattle.parts.specs.declared.frame.Whom.{Whom}
 use Rattle.parts.specs.declared.frame.Whom.the-variants.{Nobody}
@@ -17,7 +17,7 @@ use Rattle.parts.specs.declared.frame.Frame.{Frame}
 use Rattle.parts.specs.declared.frame.Frame.the-variants.{Token, Transmit, Information}
 use Rattle.parts.specs.declared.frame.Dispatch.{Dispatch}
 use Rattle.parts.specs.declared.frame.Dispatch.the-variants.{Sent}
-use Rattle.plain_rules.specs.declared.round.Bid.{Bid}
+use Rattle.sent.specs.declared.round.Bid.{Bid}
 use Rattle.parts.proofs.Laws.Choose.{pick-true}
 use Rattle.station_theorems.proofs.Laws.Sending.{passes}
 use Rattle.bench_theorems.specs.Quiet.{offset, longest, Phase, token, transmit, information, Offers, no-bid, bid, granted}

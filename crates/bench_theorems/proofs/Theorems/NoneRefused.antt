@@ -14,7 +14,7 @@ use Rattle.station.specs.Stations.{stateOf, made, answered, unless}
 use Rattle.station.specs.Start.{startRule}
 use Rattle.station.specs.Heard.{frameRule}
 use Rattle.station.specs.Queue.{accepted, queueNumber, queueRule}
-use Rattle.plain_rules.specs.Refusals.{queueRefusal}
+use Rattle.parts.specs.Refusals.{queueRefusal}
 use Rattle.parts.specs.declared.moves.State.{State}
 use Rattle.parts.specs.declared.moves.Event.the-variants.{Queue}
 use Rattle.parts.specs.declared.live.Live.{Live}

@@ -42,7 +42,7 @@ unfolding stepOn deliverTo
 step-n b Nothing = refl
 step-n b (Sent frame to) = refl
 
-event-n : (b : Bench) (e : Event) → afterEvent b e .n ≡ b .n
+pub event-n : (b : Bench) (e : Event) → afterEvent b e .n ≡ b .n
 unfolding afterEvent step queue pick
 event-n b stepped = step-n b (b .wire .sent)
 event-n b (queued from r) = go (leb (seats (b .n)) from)

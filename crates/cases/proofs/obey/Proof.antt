@@ -49,8 +49,8 @@ slice-aggregate-is-word-3 c = search needs
 is-word-requires-3 : tie.Need-is-word-requires-3
 is-word-requires-3 c κs = search needs
 
-numbers-behind-requires : tie.Need-numbers-behind-requires
-numbers-behind-requires c κs = search needs
+numbers-of-requires : tie.Need-numbers-of-requires
+numbers-of-requires c κs = search needs
 
 element-copy-out-t26 : tie.Need-element-copy-out-t26
 element-copy-out-t26 c = search needs
@@ -95,7 +95,7 @@ obey-spec =
     returns-2
     slice-aggregate-is-word-3
     is-word-requires-3
-    numbers-behind-requires
+    numbers-of-requires
     element-copy-out-t26
     element-copy-out-t29
     element-copy-out-t32

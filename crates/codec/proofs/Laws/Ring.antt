@@ -5,14 +5,15 @@ use mathlib.Core.List.{List, [], _∷_}
 use Prim.Native.Nat.{ℕ, zero, suc, _+_, _-_, _*_, _<_, _≤_, zero-le}
 use native.Mathlib.Numerals.{add-one}
 use native.Mathlib.Omega.{arith}
-use borrow.Author.Tests.{ltb-false, eqb-true, eqb-false, not-false, ne-eqb}
+use borrow.Author.Tests.{lt-ltb, le-ltb, ltb-false, eqb-true, eqb-false, not-false, ne-eqb}
 use lib.Dec.{eqb}
 use lib.ListN.{length, take, drop, getD, set, length-append, drop-of-length-le}
 use lib.Seq.{take-suc, drop-cons, take-at}
 use Rattle.codec.specs.Order.{firstOf}
 use Rattle.codec.specs.Octets.{laid, zeros}
 use Rattle.codec.specs.Bits.{bits}
-use Rattle.codec.specs.Ring.{form, others, count, limit, zeroBits, addressesOf, headTests, addressTests, addressesTests, headRefusal, addressRefusal, addressesRefusal, ringRefusal, filled, ringOf, noRing, readRing}
+use Rattle.codec.specs.declared.head.HeadBits.{HeadBits}
+use Rattle.codec.specs.Ring.{form, others, limit, zeroBits, headBits, count, headLength, fileOctets, addressesOf, headTests, addressTests, addressesTests, headRefusal, fieldRefusal, addressRefusal, addressesRefusal, ringRefusal, filled, ringOf, noRing, readRing}
 use Rattle.codec.proofs.Laws.Bits.{bits-below}
 use Rattle.codec.proofs.Laws.Octets.{laid-behind, laid-start}
 use Rattle.codec.proofs.Laws.Order.{Apart, first-append, none-gives, none-holds, first-passed, first-none, first-some}
@@ -45,17 +46,17 @@ addresses-none ms i h = rw (drop-of-length-le ms h)
 pub length-addresses : (file : List ℕ) (n : ℕ) → length (addressesOf file n) ≡ n
 unfolding addressesOf
 length-addresses file zero = refl
-length-addresses file (suc n) = length-append (addressesOf file n) (bits file (16 + n * 48) 48 ∷ []) ∙ ap (λ (k : ℕ). k + 1) (length-addresses file n) ∙ add-one n
+length-addresses file (suc n) = length-append (addressesOf file n) (bits file (fileOctets n * 8) 48 ∷ []) ∙ ap (λ (k : ℕ). k + 1) (length-addresses file n) ∙ add-one n
 
 -- one address more behind those that are laid over
 pub addresses-more-laid : (file l l₁ : List ℕ) (i : ℕ) → i < length l → l₁ ≡ laid l 0 (addressesOf file i)
-    → set l₁ i (bits file (16 + i * 48) 48) ≡ laid l 0 (addressesOf file (i + 1))
+    → set l₁ i (bits file (fileOctets i * 8) 48) ≡ laid l 0 (addressesOf file (i + 1))
 unfolding addressesOf
 addresses-more-laid file l l₁ i h e =
     let here : 0 + length (addressesOf file i) ≡ i = omega (arith, length-addresses file i) in
-    ap (λ (o : List ℕ). set o i (bits file (16 + i * 48) 48)) e
-    ∙ ap (λ (n : ℕ). set (laid l 0 (addressesOf file i)) n (bits file (16 + i * 48) 48)) (sym here)
-    ∙ laid-behind l (addressesOf file i) 0 (bits file (16 + i * 48) 48) (rw here h)
+    ap (λ (o : List ℕ). set o i (bits file (fileOctets i * 8) 48)) e
+    ∙ ap (λ (n : ℕ). set (laid l 0 (addressesOf file i)) n (bits file (fileOctets i * 8) 48)) (sym here)
+    ∙ laid-behind l (addressesOf file i) 0 (bits file (fileOctets i * 8) 48) (rw here h)
     ∙ rw (add-one i)
 
 -- the start of an array that a file's addresses are laid over
@@ -75,7 +76,7 @@ pub record HeadGood (file : List ℕ) : Type 0 where
   pub zero-bits : zeroBits file ≡ 0
   pub another : others file ≡ 0 → ⊥
   pub some-limit : limit file ≡ 0 → ⊥
-  pub sized : length file ≡ 2 + 6 * count file
+  pub sized : length file ≡ fileOctets (count file)
 
 -- no refusal is 0
 head-apart : (file : List ℕ) → Apart 0 (headTests file)
@@ -93,6 +94,19 @@ head-good file e =
       some-limit = eqb-false _ _ (n .1 .1 .1 .1 .0);
       sized = eqb-true _ _ (not-false _ (n .1 .1 .1 .1 .1 .0));
     }
+
+-- a file that is too short for a head, and one that is not
+pub head-short : (file : List ℕ) → length file < headLength → headRefusal file ≡ 1
+unfolding headRefusal
+head-short file h = rw (lt-ltb (length file) headLength h)
+
+pub head-fields : (file : List ℕ) → headLength ≤ length file → headRefusal file ≡ fieldRefusal (headBits file) (length file)
+unfolding headRefusal fieldRefusal
+head-fields file h = rw (le-ltb (length file) headLength h)
+
+-- N − 1 is of 6 bits
+pub few-others : (file : List ℕ) (h : HeadBits) → h ≡ headBits file → h .others < 64
+few-others file h e = rw e (bits-below file 4 6)
 
 pub refused-early : (file : List ℕ) → (headRefusal file ≡ 0 → ⊥) → ringRefusal file ≡ headRefusal file
 unfolding headRefusal ringRefusal
@@ -129,14 +143,17 @@ few-members file = go (eqb (ringRefusal file) 0)
     go true = omega (arith, bits-below file 4 6)
     go false = zero-le
 
+pub read-number : (file : List ℕ) → readRing file .number ≡ ringRefusal file
+unfolding readRing
+read-number file = go (eqb (ringRefusal file) 0) refl
+  where
+    go : (b : Bool) → eqb (ringRefusal file) 0 ≡ b → (cond b (record { number = 0; ring = ringOf file }) (noRing (ringRefusal file))) .number ≡ ringRefusal file
+    go true e = sym (eqb-true (ringRefusal file) 0 e)
+    go false e = refl
+
 -- a number of 0 says that no check refuses
 pub read-zero : (file : List ℕ) → readRing file .number ≡ 0 → ringRefusal file ≡ 0
-unfolding readRing
-read-zero file e = go (eqb (ringRefusal file) 0) refl e
-  where
-    go : (b : Bool) → eqb (ringRefusal file) 0 ≡ b → (cond b (record { number = 0; ring = ringOf file }) (noRing (ringRefusal file))) .number ≡ 0 → ringRefusal file ≡ 0
-    go true h e′ = eqb-true _ _ h
-    go false h e′ = e′
+read-zero file e = sym (read-number file) ∙ e
 
 -- and so the head's do not
 pub head-passed : (file : List ℕ) → ringRefusal file ≡ 0 → headRefusal file ≡ 0

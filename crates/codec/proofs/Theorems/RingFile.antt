@@ -7,7 +7,7 @@ use lib.ListN.{length, take, drop, length-drop, take-append-drop}
 use lib.Seq.{take-add, take-all, drop-drop}
 use Rattle.codec.specs.Octets.{Octets, octets, numberAt}
 use Rattle.codec.specs.Bits.{bits}
-use Rattle.codec.specs.Ring.{form, others, count, limit, zeroBits, addressesOf, ringOf, readRing, filled, addressOctets, ringFile}
+use Rattle.codec.specs.Ring.{form, others, limit, zeroBits, count, headLength, stride, fileOctets, addressesOf, ringOf, readRing, filled, addressOctets, ringFile}
 use Rattle.codec.proofs.Laws.Octets.{field-again}
 use Rattle.codec.proofs.Laws.Bits.{bits-join, bits-octets}
 use Rattle.codec.proofs.Laws.Ring.{HeadGood, head-good, head-passed, read-zero, read-good, length-addresses, members-filled}
@@ -33,26 +33,25 @@ unfolding addressOctets
 octets-snoc [] a = append-nil (octets 6 a)
 octets-snoc (x ∷ xs) a = ap (λ (l : List ℕ). octets 6 x ++ l) (octets-snoc xs a) ∙ sym (append-assoc (octets 6 x) (addressOctets xs) (octets 6 a))
 
-addresses-again : (file : List ℕ) (n : ℕ) → Octets file → 2 + 6 * n ≤ length file → take (6 * n) (drop 2 file) ≡ addressOctets (addressesOf file n)
+addresses-again : (file : List ℕ) (n : ℕ) → Octets file → fileOctets n ≤ length file → take (stride * n) (drop headLength file) ≡ addressOctets (addressesOf file n)
 unfolding addressesOf addressOctets
 addresses-again file zero o h = refl
 addresses-again file (suc n) o h =
-    let e : 6 * suc n ≡ 6 * n + 6 = omega arith in
-    let place : 16 + n * 48 ≡ (2 + 6 * n) * 8 = omega arith in
-    let address : octets 6 (bits file (16 + n * 48) 48) ≡ take 6 (drop (2 + 6 * n) file) =
-    ap (λ (j : ℕ). octets 6 (bits file j 48)) place ∙ ap (octets 6) (bits-octets file (2 + 6 * n) 6 o (omega arith)) ∙ field-again file (2 + 6 * n) 6 o (omega arith) in
-    ap (λ (k : ℕ). take k (drop 2 file)) e
-    ∙ take-add (6 * n) 6 (drop 2 file)
-    ∙ ap (λ (l : List ℕ). l ++ take 6 (drop (6 * n) (drop 2 file))) (addresses-again file n o (omega arith))
-    ∙ ap (λ (l : List ℕ). addressOctets (addressesOf file n) ++ l) (ap (take 6) (drop-drop (6 * n) 2 file) ∙ sym address)
-    ∙ sym (octets-snoc (addressesOf file n) (bits file (16 + n * 48) 48))
+    let e : stride * suc n ≡ stride * n + stride = omega arith in
+    let address : octets 6 (bits file (fileOctets n * 8) 48) ≡ take stride (drop (fileOctets n) file) =
+    ap (octets 6) (bits-octets file (fileOctets n) 6 o (omega arith)) ∙ field-again file (fileOctets n) 6 o (omega arith) in
+    ap (λ (k : ℕ). take k (drop headLength file)) e
+    ∙ take-add (stride * n) stride (drop headLength file)
+    ∙ ap (λ (l : List ℕ). l ++ take stride (drop (stride * n) (drop headLength file))) (addresses-again file n o (omega arith))
+    ∙ ap (λ (l : List ℕ). addressOctets (addressesOf file n) ++ l) (ap (take stride) (drop-drop (stride * n) headLength file) ∙ sym address)
+    ∙ sym (octets-snoc (addressesOf file n) (bits file (fileOctets n * 8) 48))
 
 -- ---- the theorem
 
 good-again : (file : List ℕ) → Octets file → HeadGood file → file ≡ ringFile (ringOf file)
 unfolding ringFile ringOf
 good-again file o g =
-    let all : take (6 * count file) (drop 2 file) ≡ drop 2 file = take-all (6 * count file) (drop 2 file) (rw (length-drop 2 file) (omega (arith, g .sized))) in
+    let all : take (stride * count file) (drop headLength file) ≡ drop headLength file = take-all (stride * count file) (drop headLength file) (rw (length-drop headLength file) (omega (arith, g .sized))) in
     let members : take (count file) (filled (addressesOf file (count file))) ≡ addressesOf file (count file) = members-filled (addressesOf file (count file)) (count file) (length-addresses file (count file)) in
     sym (take-append-drop 2 file)
     ∙ ap (λ (l : List ℕ). l ++ drop 2 file) (head-again file o g)

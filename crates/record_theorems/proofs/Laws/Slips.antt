@@ -8,7 +8,7 @@ use borrow.Author.Tests.{eq-eqb, eqb-true, ne-eqb, le-ltb}
 use lib.Dec.{eqb}
 use Rattle.parts.specs.Choose.{pick, allOf}
 use Rattle.parts.specs.Moves.{stateNumber}
-use Rattle.plain_rules.specs.Round.{bidOf, passing}
+use Rattle.sent.specs.Round.{bidOf, passing}
 use Rattle.parts.specs.declared.moves.State.{State}
 use Rattle.parts.specs.declared.moves.State.the-variants.{Offline, Idle, Waiting, Alone, Excluded}
 use Rattle.parts.specs.declared.frame.Whom.{Whom}

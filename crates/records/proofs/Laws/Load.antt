@@ -1,60 +1,83 @@
--- Laws of reading a record, one check at a time, and what a reader holds that took the checks in turn. Assumes nothing.
+-- Laws of reading a record: what is known of one that is whole, and what opening it holds. Assumes nothing.
 use mathlib.Core.Path.{_≡_, refl, sym, ap, _∙_}
-use mathlib.Core.Bool.{Bool, true, false, cond, not}
+use mathlib.Core.Bool.{Bool, true, false, cond, not, true≢false}
 use mathlib.Core.List.{List, [], _∷_, _++_}
-use Prim.Native.Nat.{ℕ, _+_, _-_, _/_, _≤_}
+use Prim.Native.Nat.{ℕ, _+_, _≤_}
 use native.Mathlib.Omega.{arith}
-use borrow.Author.Tests.{eq-eqb, ne-eqb, eqb-true, eqb-false, not-true, not-false}
+use borrow.Author.Tests.{eq-eqb, eqb-true, leb-true, not-true, not-false}
 use lib.Dec.{eqb}
 use lib.ListN.{length, take, drop, take-append-drop}
 use lib.Seq.{length-take-le}
 use Rattle.codec.specs.Bits.{bits}
 use Rattle.codec.specs.Octets.{laid}
-use Rattle.codec.specs.Ring.{Ring, RingRead, count, limit, addressesOf, ringRefusal, filled, ringOf, noRing, readRing}
+use Rattle.codec.specs.Ring.{RingRead, count, limit, addressesOf, filled, ringOf}
 use Rattle.codec.proofs.Laws.Bits.{bits-below}
-use Rattle.codec.proofs.Laws.Ring.{read-zero, read-good, read-refused, few-members, length-addresses, members-filled, members-laid}
-use Rattle.wholeness.specs.Whole.{restBlank, whole}
+use Rattle.codec.proofs.Laws.Ring.{read-zero, read-good, few-members, length-addresses, members-filled, members-laid}
+use Rattle.parts.proofs.Laws.Tests.{held, hold}
+use Rattle.wholeness.specs.Whole.{restBlank, ringGood, whole}
+use Rattle.station.specs.Stations.{made}
 use Rattle.station.specs.declared.station.Station.{Station}
 use Rattle.records.specs.Layout.{recordLength, ringRoom}
-use Rattle.records.specs.Record.{Loaded, fileLength, fileOf, ringFrom, stationFrom, stationOf, fieldsGood, restsGood, goodRing, notWhole, readRecord}
+use Rattle.records.specs.Record.{Loaded, fileLength, fileOf, ringFrom, stationFrom, stationOf, fieldsGood, restsGood, octetsGood, notWhole, readRecord, Opened}
 use Rattle.records.proofs.Laws.Rest.{whole-rests, station-rests}
 
 abbrev pub wholeOf : RingRead → Station → Loaded
 wholeOf r st = record { ok = true; ring = r .ring; station = st }
 
--- ---- the checks
+-- ---- a record that is whole
 
-module _ (s : List ℕ) where
-  pub length-bad : (length s ≡ recordLength → ⊥) → readRecord s ≡ notWhole
-  unfolding readRecord
-  length-bad n = rw (ne-eqb (length s) recordLength n)
+pub record-good : (s : List ℕ) → length s ≡ recordLength → ringFrom s .number ≡ 0 → fieldsGood s ≡ true → whole (stationOf s) ≡ true
+    → readRecord s ≡ wholeOf (ringFrom s) (stationOf s)
+unfolding readRecord
+record-good s sized good fields e = rw (eq-eqb (length s) recordLength sized, eq-eqb (ringFrom s .number) 0 good, fields, e)
 
-  module _ (sized : length s ≡ recordLength) where
-    pub ring-bad : (ringFrom s .number ≡ 0 → ⊥) → readRecord s ≡ notWhole
-    unfolding readRecord
-    ring-bad n = rw (eq-eqb (length s) recordLength sized, ne-eqb (ringFrom s .number) 0 n)
+-- what is known of a record's octets that a station was loaded from
+pub record WholeRecord (s : List ℕ) : Type 0 where
+  pub sized : length s ≡ recordLength
+  pub good-ring : ringFrom s .number ≡ 0
+  pub good-fields : fieldsGood s ≡ true
+  pub good-station : whole (stationOf s) ≡ true
+  pub loaded : readRecord s ≡ wholeOf (ringFrom s) (stationOf s)
 
-    module _ (good : ringFrom s .number ≡ 0) where
-      pub fields-bad : fieldsGood s ≡ false → readRecord s ≡ notWhole
-      unfolding readRecord
-      fields-bad e = rw (eq-eqb (length s) recordLength sized, eq-eqb (ringFrom s .number) 0 good, e)
+-- a check that the record passed
+passed : (b : Bool) (rest : Loaded) → (cond b notWhole rest) .ok ≡ true → (b ≡ false) × (rest .ok ≡ true)
+passed true rest e = absurd (let z : _≡_ {A = ℕ} 0 1 = cc e in omega arith)
+passed false rest e = (refl, e)
 
-      module _ (fields : fieldsGood s ≡ true) where
-        pub station-bad : whole (stationOf s) ≡ false → readRecord s ≡ notWhole
-        unfolding readRecord
-        station-bad e = rw (eq-eqb (length s) recordLength sized, eq-eqb (ringFrom s .number) 0 good, fields, e)
+pub whole-record : (s : List ℕ) → readRecord s .ok ≡ true → WholeRecord s
+unfolding readRecord
+whole-record s e =
+    let a = passed _ _ e in
+    let b = passed _ _ (a .1) in
+    let c = passed _ _ (b .1) in
+    let d = passed _ _ (c .1) in
+    let h = eqb-true _ _ (not-false _ (a .0)) in
+    let g = eqb-true _ _ (not-false _ (b .0)) in
+    let f = not-false _ (c .0) in
+    let w = not-false _ (d .0) in
+    record { sized = h; good-ring = g; good-fields = f; good-station = w; loaded = record-good s h g f w }
 
-        -- what follows a list's messages: the station that it gives would not be whole
-        pub rests-bad : restsGood s ≡ false → readRecord s ≡ notWhole
-        rests-bad e = station-bad (go (whole (stationOf s)) refl)
-          where
-            go : (t : Bool) → whole (stationOf s) ≡ t → t ≡ false
-            go false w = refl
-            go true w = sym (whole-rests s sized w) ∙ e
+-- ---- and one that is not
 
-        pub record-good : whole (stationOf s) ≡ true → readRecord s ≡ wholeOf (ringFrom s) (stationOf s)
-        unfolding readRecord
-        record-good e = rw (eq-eqb (length s) recordLength sized, eq-eqb (ringFrom s .number) 0 good, fields, e)
+not-ok : (s : List ℕ) → (WholeRecord s → ⊥) → readRecord s .ok ≡ false
+not-ok s n = go (readRecord s .ok) refl
+  where
+    go : (b : Bool) → readRecord s .ok ≡ b → b ≡ false
+    go false e = refl
+    go true e = absurd (n (whole-record s e))
+
+-- whichever check fails, there is no station
+failed : (b : Bool) (rest : Loaded) → (rest .ok ≡ false → rest ≡ notWhole) → (cond b notWhole rest) .ok ≡ false → cond b notWhole rest ≡ notWhole
+failed true rest h e = refl
+failed false rest h e = h e
+
+no-record : (s : List ℕ) → readRecord s .ok ≡ false → readRecord s ≡ notWhole
+unfolding readRecord
+no-record s =
+    failed (not (eqb (length s) recordLength)) _
+    (failed (not (eqb (ringFrom s .number) 0)) _
+    (failed (not (fieldsGood s)) _
+    (failed (not (whole (stationOf s))) (wholeOf (ringFrom s) (stationOf s)) (λ e. absurd (true≢false e)))))
 
 -- ---- the first two octets say how many members there are, and the retry limit
 
@@ -76,133 +99,39 @@ file-room s = omega (arith, bits-below s 4 6)
 pub length-file : (s : List ℕ) → length s ≡ recordLength → length (fileOf s) ≡ fileLength s
 length-file s sized = length-take-le (fileLength s) s (omega (arith, file-room s))
 
--- ---- a record whose octets are good
+-- ---- the ring of a record whose octets are good
 
-pub record GoodOctets (s : List ℕ) : Type 0 where
-  pub sized : length s ≡ recordLength
-  pub good-ring : ringFrom s .number ≡ 0
-  pub good-fields : fieldsGood s ≡ true
-  pub good-rests : restsGood s ≡ true
-
--- a ring with members has no refusal
-with-members : (file : List ℕ) → (readRing file .ring .n ≡ 0 → ⊥) → readRing file .number ≡ 0
-with-members file some = go (eqb (ringRefusal file) 0) refl
-  where
-    go : (b : Bool) → eqb (ringRefusal file) 0 ≡ b → readRing file .number ≡ 0
-    go true e = ap (λ (r : RingRead). r .number) (read-good file (eqb-true _ _ e))
-    go false e = absurd (some (ap (λ (r : RingRead). r .ring .n) (read-refused file (ringRefusal file) refl (eqb-false _ _ e))))
-
-pub good-octets : (s : List ℕ) → (goodRing s .n ≡ 0 → ⊥) → GoodOctets s
-unfolding goodRing
-good-octets s some = go (eqb (length s) recordLength) (fieldsGood s) (restsGood s) refl refl refl some
-  where
-    go : (a b d : Bool) → eqb (length s) recordLength ≡ a → fieldsGood s ≡ b → restsGood s ≡ d
-        → (cond (not a) (noRing 0 .ring) (cond (not b) (noRing 0 .ring) (cond (not d) (noRing 0 .ring) (ringFrom s .ring))) .n ≡ 0 → ⊥) → GoodOctets s
-    go true true true ea eb ed n =
-        record { sized = eqb-true _ _ ea; good-ring = with-members (fileOf s) n; good-fields = eb; good-rests = ed }
-    go true true false ea eb ed n = absurd (n refl)
-    go true false d ea eb ed n = absurd (n refl)
-    go false b d ea eb ed n = absurd (n refl)
-
-module _ (s : List ℕ) (g : GoodOctets s) where
-  pub good-ring-is : goodRing s ≡ ringFrom s .ring
-  unfolding goodRing
-  good-ring-is = rw (eq-eqb (length s) recordLength (g .sized), g .good-fields, g .good-rests)
-
+module _ (s : List ℕ) (sized : length s ≡ recordLength) (good : ringFrom s .number ≡ 0) where
   ring-read : ringFrom s ≡ record { number = 0; ring = ringOf (fileOf s) }
-  ring-read = read-good (fileOf s) (read-zero (fileOf s) (g .good-ring))
+  ring-read = read-good (fileOf s) (read-zero (fileOf s) good)
 
   file-split : fileOf s ++ drop (fileLength s) s ≡ s
   file-split = take-append-drop (fileLength s) s
 
   file-long : 2 ≤ length (fileOf s)
-  file-long = rw (length-file s (g .sized)) (omega arith)
+  file-long = rw (length-file s sized) (omega arith)
+
+  file-count : count (fileOf s) ≡ count s
+  file-count = sym (count-front (fileOf s) (drop (fileLength s) s) file-long) ∙ ap count file-split
 
   pub ring-count : ringFrom s .ring .n ≡ count s
   unfolding ringOf
-  ring-count =
-      ap (λ (r : RingRead). r .ring .n) ring-read ∙ sym (count-front (fileOf s) (drop (fileLength s) s) file-long) ∙ ap count file-split
+  ring-count = ap (λ (r : RingRead). r .ring .n) ring-read ∙ file-count
 
-  pub ring-limit : ringFrom s .ring .limit ≡ limit s
+  ring-limit : ringFrom s .ring .limit ≡ limit s
   unfolding ringOf
   ring-limit =
       ap (λ (r : RingRead). r .ring .limit) ring-read ∙ sym (limit-front (fileOf s) (drop (fileLength s) s) file-long) ∙ ap limit file-split
 
-  some-members : goodRing s .n ≡ 0 → ⊥
-  some-members z =
-      let e : goodRing s .n ≡ count s = ap (λ (r : Ring). r .n) good-ring-is ∙ ring-count in
-      omega arith
-
-  file-count : count (fileOf s) ≡ count s
+  ring-members : take (count s) (ringFrom s .ring .addresses) ≡ addressesOf (fileOf s) (count s)
   unfolding ringOf
-  file-count = sym (ap (λ (r : RingRead). r .ring .n) ring-read) ∙ ring-count
-
-  -- the addresses of its ring
-  good-members : take (count s) (goodRing s .addresses) ≡ addressesOf (fileOf s) (count s)
-  unfolding ringOf
-  good-members =
-      ap (λ (r : Ring). take (count s) (r .addresses)) (good-ring-is ∙ ap (λ (r : RingRead). r .ring) ring-read)
+  ring-members =
+      ap (λ (r : RingRead). take (count s) (r .ring .addresses)) ring-read
       ∙ ap (λ (k : ℕ). take (count s) (filled (addressesOf (fileOf s) k))) file-count
       ∙ members-filled (addressesOf (fileOf s) (count s)) (count s) (length-addresses (fileOf s) (count s))
 
--- ---- the good ring, as the code reads it
+-- ---- what is held of a whole record: n members in an array and a station
 
-pub length-none : (s : List ℕ) → (length s ≡ recordLength → ⊥) → goodRing s .n ≡ 0
-unfolding goodRing
-length-none s n = rw (ne-eqb (length s) recordLength n)
-
-module _ (s : List ℕ) (end k : ℕ) (l addresses : List ℕ) (sized : length s ≡ recordLength) (ends : end ≡ fileLength s)
-    (read : (k ≡ ringRefusal (take end s)) × (k ≡ 0 → addresses ≡ laid l 0 (addressesOf (take end s) (count (take end s)))))
-  where
-    refusal-is : k ≡ ringRefusal (fileOf s)
-    refusal-is = read .0 ∙ ap (λ (e : ℕ). ringRefusal (take e s)) ends
-
-    pub refusal-none : (k ≡ 0 → ⊥) → goodRing s .n ≡ 0
-    refusal-none n = go (eqb (goodRing s .n) 0) refl
-      where
-        go : (b : Bool) → eqb (goodRing s .n) 0 ≡ b → goodRing s .n ≡ 0
-        go true e = eqb-true _ _ e
-        go false e = absurd (n (refusal-is ∙ read-zero (fileOf s) (good-octets s (eqb-false _ _ e) .good-ring)))
-
-    pub fields-none : fieldsGood s ≡ false → goodRing s .n ≡ 0
-    unfolding goodRing
-    fields-none e = rw (eq-eqb (length s) recordLength sized, e)
-
-    pub rests-none : fieldsGood s ≡ true → restsGood s ≡ false → goodRing s .n ≡ 0
-    unfolding goodRing
-    rests-none f e = rw (eq-eqb (length s) recordLength sized, f, e)
-
-    pub all-read : k ≡ 0 → fieldsGood s ≡ true → restsGood s ≡ true → ((end - 2) / 6 ≡ goodRing s .n) × (take ((end - 2) / 6) addresses ≡ take ((end - 2) / 6) (goodRing s .addresses))
-    all-read z f t =
-        let file : List ℕ = fileOf s in
-        let g : GoodOctets s =
-        record { sized = sized; good-ring = ap (λ (r : RingRead). r .number) (read-good file (sym refusal-is ∙ z)); good-fields = f; good-rests = t } in
-        let size : (end - 2) / 6 ≡ count s = omega (arith, ends) in
-        let laid-over : addresses ≡ laid l 0 (addressesOf file (count s)) =
-        read .1 z ∙ ap (λ (e : ℕ). laid l 0 (addressesOf (take e s) (count (take e s)))) ends ∙ ap (λ (n : ℕ). laid l 0 (addressesOf file n)) (file-count s g) in (
-          size ∙ sym (ring-count s g) ∙ sym (ap (λ (r : Ring). r .n) (good-ring-is s g)),
-          ap (λ (n : ℕ). take n addresses) size
-              ∙ members-laid file l addresses (count s) laid-over
-              ∙ sym (good-members s g)
-              ∙ ap (λ (n : ℕ). take n (goodRing s .addresses)) (sym size),
-        )
-
--- ---- what a reader holds that took the checks in turn
-
--- a record without members in its good ring is not whole
-pub none-good : (s : List ℕ) → goodRing s .n ≡ 0 → readRecord s .ok ≡ false
-none-good s z = go (eqb (length s) recordLength) (eqb (ringFrom s .number) 0) (fieldsGood s) (restsGood s) refl refl refl refl
-  where
-    go : (a b d t : Bool) → eqb (length s) recordLength ≡ a → eqb (ringFrom s .number) 0 ≡ b → fieldsGood s ≡ d → restsGood s ≡ t
-        → readRecord s .ok ≡ false
-    go false b d t ea eb ed et = ap (λ (l : Loaded). l .ok) (length-bad s (eqb-false _ _ ea))
-    go true false d t ea eb ed et = ap (λ (l : Loaded). l .ok) (ring-bad s (eqb-true _ _ ea) (eqb-false _ _ eb))
-    go true true false t ea eb ed et = ap (λ (l : Loaded). l .ok) (fields-bad s (eqb-true _ _ ea) (eqb-true _ _ eb) ed)
-    go true true true false ea eb ed et = ap (λ (l : Loaded). l .ok) (rests-bad s (eqb-true _ _ ea) (eqb-true _ _ eb) ed et)
-    go true true true true ea eb ed et =
-        absurd (some-members s (record { sized = eqb-true _ _ ea; good-ring = eqb-true _ _ eb; good-fields = ed; good-rests = et }) z)
-
--- the ring and the station of a whole record, as n members in an array and a station
 pub record Held (s addresses : List ℕ) (n : ℕ) (st : Station) : Type 0 where
   pub sized : length s ≡ recordLength
   pub few : n ≤ 64
@@ -210,52 +139,107 @@ pub record Held (s addresses : List ℕ) (n : ℕ) (st : Station) : Type 0 where
   pub members : take n addresses ≡ take (readRecord s .ring .n) (readRecord s .ring .addresses)
   pub station : st ≡ readRecord s .station
 
-module _ (s addresses : List ℕ) (n : ℕ) (read : (n ≡ goodRing s .n) × (take n addresses ≡ take n (goodRing s .addresses))) where
-  pub not-good : n ≡ 0 → readRecord s .ok ≡ false
-  not-good z = none-good s (sym (read .0) ∙ z)
+-- ---- opening it, step by step
 
-  module _ (some : n ≡ 0 → ⊥) where
-    good : GoodOctets s
-    good = good-octets s (λ z. some (read .0 ∙ z))
+pub not-opened : (s addresses : List ℕ) → readRecord s .ok ≡ false → Opened s addresses (made 0 0 0)
+not-opened s addresses e =
+    let none : readRecord s ≡ notWhole = no-record s e in
+    record {
+      station = ap (λ (l : Loaded). l .station) (sym none);
+      members = ap (λ (l : Loaded). take (l .ring .n) (l .ring .addresses)) (sym none);
+    }
 
-    size : n ≡ ringFrom s .ring .n
-    size = read .0 ∙ ap (λ (r : Ring). r .n) (good-ring-is s good)
+pub bad-length : (s : List ℕ) → (length s ≡ recordLength → ⊥) → readRecord s .ok ≡ false
+bad-length s n = not-ok s (λ w. n (w .sized))
 
-    good-few : n ≤ 64
-    good-few = rw size (few-members (fileOf s))
+module _ (s : List ℕ) (sized : length s ≡ recordLength) where
+  -- what follows a list's messages is asked before the station is made: it would not be whole
+  pub bad-octets : octetsGood s ≡ false → readRecord s .ok ≡ false
+  unfolding octetsGood
+  bad-octets e =
+      not-ok s
+      (λ w.
+      true≢false
+      (sym (hold _ (eq-eqb _ _ (w .good-ring), (w .good-fields, (whole-rests s (w .sized) (w .good-station), tt)))) ∙ e))
+
+  module _ (good : octetsGood s ≡ true) where
+    good-ring : ringFrom s .number ≡ 0
+    unfolding octetsGood
+    good-ring = eqb-true _ _ (held _ good .0)
+
+    good-fields : fieldsGood s ≡ true
+    unfolding octetsGood
+    good-fields = held _ good .1 .0
 
     -- what reading its station requires
-    pub good-enough : (recordLength ≤ length s) × (n ≤ 64) × (restsGood s ≡ true)
-    good-enough =
-        let h : length s ≡ recordLength = good .sized in
-        (omega arith, good-few, good .good-rests)
+    pub good-rests : restsGood s ≡ true
+    unfolding octetsGood
+    good-rests = held _ good .1 .1 .0
 
-    -- and what asking whether it is whole requires
-    pub blank-enough : (st : Station) → st ≡ stationFrom s n (limit s) → (restBlank (st .sends) ≡ true) × (restBlank (st .receives) ≡ true)
-    blank-enough st from = rw from (station-rests s n (limit s) (good-enough .0) (good .good-rests))
+    module _ (n r : ℕ) (st : Station) (from : st ≡ stationFrom s n r) where
+      -- and what asking whether it is whole requires
+      pub blank-enough : (restBlank (st .sends) ≡ true) × (restBlank (st .receives) ≡ true)
+      blank-enough = rw from (station-rests s n r (omega arith) good-rests)
 
-    module _ (st : Station) (w : Bool) (from : st ≡ stationFrom s n (limit s)) (asked : w ≡ whole st) where
-      station-is : st ≡ stationOf s
-      station-is =
-          from ∙ ap (λ (k : ℕ). stationFrom s k (limit s)) size ∙ ap (stationFrom s (ringFrom s .ring .n)) (sym (ring-limit s good))
+      module _ (counted : n ≡ count s) (limited : r ≡ limit s) (w : Bool) (asked : w ≡ whole st) where
+        station-is : st ≡ stationOf s
+        station-is =
+            from
+            ∙ ap (λ (k : ℕ). stationFrom s k r) (counted ∙ sym (ring-count s sized good-ring))
+            ∙ ap (stationFrom s (ringFrom s .ring .n)) (limited ∙ sym (ring-limit s sized good-ring))
 
-      pub not-whole : not w ≡ true → readRecord s .ok ≡ false
-      not-whole e =
-          ap (λ (l : Loaded). l .ok)
-          (station-bad s (good .sized) (good .good-ring) (good .good-fields) (ap whole (sym station-is) ∙ sym asked ∙ not-true _ e))
+        pub bad-station : not w ≡ true → readRecord s .ok ≡ false
+        bad-station e =
+            not-ok s (λ h. true≢false (sym (h .good-station) ∙ ap whole (sym station-is) ∙ sym asked ∙ not-true _ e))
 
-      pub held : not w ≡ false → Held s addresses n st
-      held e =
-          let reads : readRecord s ≡ wholeOf (ringFrom s) (stationOf s) =
-          record-good s (good .sized) (good .good-ring) (good .good-fields) (ap whole (sym station-is) ∙ sym asked ∙ not-false _ e) in
+        pub opened : not w ≡ false → (l addresses : List ℕ) → addresses ≡ laid l 0 (addressesOf (fileOf s) (count (fileOf s))) → Opened s addresses st
+        opened e l addresses read =
+            let reads : readRecord s ≡ wholeOf (ringFrom s) (stationOf s) =
+            record-good s sized good-ring good-fields (ap whole (sym station-is) ∙ sym asked ∙ not-false _ e) in
+            let laid-over : addresses ≡ laid l 0 (addressesOf (fileOf s) (count s)) =
+            read ∙ ap (λ (k : ℕ). laid l 0 (addressesOf (fileOf s) k)) (file-count s sized good-ring) in
+            record {
+              station = station-is ∙ ap (λ (x : Loaded). x .station) (sym reads);
+              members =
+                  ap (λ (x : Station). take (x .n) addresses) station-is
+                  ∙ ap (λ (k : ℕ). take k addresses) (ring-count s sized good-ring)
+                  ∙ members-laid (fileOf s) l addresses (count s) laid-over
+                  ∙ sym (ring-members s sized good-ring)
+                  ∙ ap (λ (k : ℕ). take k (ringFrom s .ring .addresses)) (sym (ring-count s sized good-ring))
+                  ∙ ap (λ (x : Loaded). take (x .ring .n) (x .ring .addresses)) (sym reads);
+            }
+
+-- ---- what an opened record's station says of it
+
+module _ {s addresses : List ℕ} {st : Station} (o : Opened s addresses st) where
+  size : readRecord s .ok ≡ true → st .n ≡ ringFrom s .ring .n
+  size ok = ap (λ (x : Station). x .n) (o .station ∙ ap (λ (l : Loaded). l .station) (whole-record s ok .loaded))
+
+  some-members : readRecord s .ok ≡ true → 2 ≤ st .n
+  unfolding whole ringGood
+  some-members ok =
+      let good : 2 ≤ stationOf s .n = leb-true _ _ (held _ (held _ (whole-record s ok .good-station) .0) .0) in
+      rw (size ok) good
+
+  -- without members: the record is not whole
+  pub none-held : st .n ≡ 0 → readRecord s .ok ≡ false
+  none-held z = go (readRecord s .ok) refl
+    where
+      go : (b : Bool) → readRecord s .ok ≡ b → b ≡ false
+      go false e = refl
+      go true e = absurd (omega (arith, z, some-members e))
+
+  -- with members: it is, and they and the station are held
+  pub opened-held : (st .n ≡ 0 → ⊥) → Held s addresses (st .n) st
+  opened-held some = go (readRecord s .ok) refl
+    where
+      go : (b : Bool) → readRecord s .ok ≡ b → Held s addresses (st .n) st
+      go false e = absurd (some (ap (λ (x : Station). x .n) (o .station ∙ ap (λ (l : Loaded). l .station) (no-record s e))))
+      go true e =
           record {
-            sized = good .sized;
-            few = good-few;
-            ok = ap (λ (l : Loaded). l .ok) reads;
-            members =
-                read .1
-                ∙ ap (λ (r : Ring). take n (r .addresses)) (good-ring-is s good)
-                ∙ ap (λ (k : ℕ). take k (ringFrom s .ring .addresses)) size
-                ∙ ap (λ (l : Loaded). take (l .ring .n) (l .ring .addresses)) (sym reads);
-            station = station-is ∙ ap (λ (l : Loaded). l .station) (sym reads);
+            sized = whole-record s e .sized;
+            few = rw (size e) (few-members (fileOf s));
+            ok = e;
+            members = o .members;
+            station = o .station;
           }

@@ -13,8 +13,8 @@ use Rattle.station.specs.declared.station.Payload.the-variants.{NoPayload, Of}
 use Rattle.packet_codec.specs.declared.packet.Packet.{Packet}
 use Rattle.packet_codec.specs.declared.packet.Packet.the-variants.{Token, Transmit, Information}
 use Rattle.records.proofs.Laws.Tables.{length-joined}
-use Rattle.shell.specs.Calls.{badOut}
-use Rattle.shell.specs.Telling.{messageTold, toldOf, takenTold}
+use Rattle.driver_calls.specs.Calls.{badOut}
+use Rattle.driver_buffers.specs.Telling.{messageTold, toldOf, takenTold}
 use Rattle.rtep.specs.Told.{valuesOf}
 use Rattle.rtep.specs.Sizes.{outLength, toldNumbers, takenNumbers, packetNumbers}
 

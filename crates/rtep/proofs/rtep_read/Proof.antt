@@ -19,8 +19,8 @@ returns c =
       told-is = sym (ap (λ (r : Read). readTold r (c .before .before .before .before .args .told .now)) (read-refused _ _ _ e (c .if1 .taken)));
     }
 
-values-in-requires : tie.Need-values-in-requires
-values-in-requires c κs = read-long _ _ (sym (c .before .refusal-of .ensures) ∙ c .if1 .left)
+values-of-requires : tie.Need-values-of-requires
+values-of-requires c κs = read-long _ _ (sym (c .before .refusal-of .ensures) ∙ c .if1 .left)
 
 returns-2 : tie.Need-returns-2
 returns-2 c =
@@ -28,8 +28,8 @@ returns-2 c =
     sym (c .before .if1 .left) ∙ c .before .before .refusal-of .ensures in
     record {
       answer = z;
-      told-is = c .values-in .ensures ∙ sym (ap (λ (r : Read). readTold r (c .before .before .before .before .before .args .told .now)) (read-good _ _ (sym z)));
+      told-is = c .values-of .ensures ∙ sym (ap (λ (r : Read). readTold r (c .before .before .before .before .before .args .told .now)) (read-good _ _ (sym z)));
     }
 
 pub rtep-read-spec : {M : Type 1} → statement M
-rtep-read-spec = tie.close (tie.spec refusal-of-requires returns values-in-requires returns-2)
+rtep-read-spec = tie.close (tie.spec refusal-of-requires returns values-of-requires returns-2)

@@ -1,16 +1,16 @@
 -- `rtep_ring` meets its contract: a file without a refusal has its addresses laid over an array, and its members are told.
 use mathlib.Core.Path.{_≡_, refl, sym, ap, _∙_}
 use mathlib.Core.List.{List, _∷_}
-use Prim.Native.Nat.{ℕ, _+_, _≤_}
+use Prim.Native.Nat.{ℕ}
 use native.Mathlib.Omega.{arith}
 use borrow.Author.Needs.{needs}
 use borrow.Author.Tests.{ne-eqb}
 use lib.ListN.{length, take}
 use Rattle.codec.specs.Octets.{laid}
-use Rattle.codec.specs.Ring.{RingRead, others, limit, count, addressesOf, ringRefusal, readRing, ringOf, filled}
+use Rattle.codec.specs.Ring.{RingRead, limit, count, countOf, addressesOf, ringRefusal, ringOf}
 use Rattle.codec.specs.declared.head.HeadBits.{HeadBits}
 use Rattle.codec.proofs.Laws.Bits.{bits-below}
-use Rattle.codec.proofs.Laws.Ring.{HeadGood, head-good, head-passed, read-refused, read-good, members-laid, members-filled, length-addresses}
+use Rattle.codec.proofs.Laws.Ring.{HeadGood, few-others, head-good, head-passed, read-refused, read-good, members-laid, members-filled, length-addresses}
 use Rattle.rtep.specs.Told.{toldRing}
 use Rattle.rtep.proofs.rtep_ring.Statement.{statement}
 use Rattle.rtep.proofs.rtep_ring.Tie as tie
@@ -35,15 +35,11 @@ passed c = sym (c .before .before .read-into .ensures .0) ∙ c .if1 .left
 good : (c : tie.Else1) → HeadGood (c .before .before .before .before .before .args .file .now)
 good c = head-good _ (head-passed _ (passed c))
 
--- the fields that were taken are the file's
-the-others : (c : tie.After-head-of) → c .head-of .result .others ≡ others (c .before .before .before .before .before .before .args .file .now)
-the-others c = ap (λ (h : HeadBits). h .others) (c .head-of .ensures)
-
 head-of-requires : tie.Need-head-of-requires
 head-of-requires c κs = omega (arith, good c)
 
-add-n : tie.Need-add-n
-add-n c = omega (arith, the-others c, bits-below (c .before .before .before .before .before .before .args .file .now) 4 6)
+count-requires : tie.Need-count-requires
+count-requires c κs = few-others _ _ (c .head-of .ensures)
 
 slice-aggregate-members : tie.Need-slice-aggregate-members
 slice-aggregate-members c = search needs
@@ -52,18 +48,16 @@ members-requires : tie.Need-members-requires
 members-requires c κs = search needs
 
 -- the members lent are the file's addresses
-the-members : (c : tie.After-members) → c .members .result .now ≡ addressesOf (c .before .before .before .before .before .before .before .before .before .args .file .now) (count (c .before .before .before .before .before .before .before .before .before .args .file .now))
+the-members : (c : tie.After-members) → c .members .result .now ≡ addressesOf (c .before .before .before .before .before .before .before .before .before .before .args .file .now) (count (c .before .before .before .before .before .before .before .before .before .before .args .file .now))
 the-members c =
-    let b = c .before .before .before in
-    let e = b .before in
-    let r = e .before .before .read-into in
-    let file = c .before .before .before .before .before .before .before .before .before .args .file .now in
-    let n : b .head-of .result .others + 1 ≡ count file = ap (λ (k : ℕ). k + 1) (the-others b) in
-    c .members .ensures ∙ ap (λ (k : ℕ). take k (r .last .1 .0)) n ∙ members-laid file _ (r .last .1 .0) (count file) (r .ensures .1 (e .if1 .left))
+    let r = c .before .before .before .before .before .before .before .read-into in
+    let file = c .before .before .before .before .before .before .before .before .before .before .args .file .now in
+    let n : c .before .before .before .count .result ≡ count file = c .before .before .before .count .ensures ∙ ap countOf (c .before .before .before .before .head-of .ensures) in
+    c .members .ensures ∙ ap (λ (k : ℕ). take k (r .last .1 .0)) n ∙ members-laid file _ (r .last .1 .0) (count file) (r .ensures .1 (c .before .before .before .before .before .if1 .left))
 
 tell-ring-requires : tie.Need-tell-ring-requires
 tell-ring-requires c κs =
-    let file = c .before .before .before .before .before .before .before .before .before .args .file .now in
+    let file = c .before .before .before .before .before .before .before .before .before .before .args .file .now in
     let e : length (c .members .result .now) ≡ count file = ap length (the-members c) ∙ length-addresses file (count file) in
     (omega (arith, e, bits-below file 4 6), search needs)
 
@@ -71,9 +65,9 @@ returns-2 : tie.Need-returns-2
 unfolding toldRing ringOf
 returns-2 c =
     let m = c .before in
-    let b = m .before .before .before in
-    let file = c .before .before .before .before .before .before .before .before .before .before .args .file .now in
-    let told = c .before .before .before .before .before .before .before .before .before .before .args .told .now in
+    let b = c .before .before .before .before .before in
+    let file = c .before .before .before .before .before .before .before .before .before .before .before .args .file .now in
+    let told = c .before .before .before .before .before .before .before .before .before .before .before .args .told .now in
     let all = addressesOf file (count file) in
     let h = b .head-of .result .limit in
     let el : h ≡ limit file = ap (λ (x : HeadBits). x .limit) (b .head-of .ensures) in
@@ -95,7 +89,7 @@ rtep-ring-spec =
     read-into-requires
     returns
     head-of-requires
-    add-n
+    count-requires
     slice-aggregate-members
     members-requires
     tell-ring-requires

@@ -29,8 +29,8 @@ none-requires c κs = search needs
 make-room-requires : tie.Need-make-room-requires Inv-loop μ-loop
 make-room-requires c κs = search needs
 
-is-refused-requires : tie.Need-is-refused-requires Inv-loop μ-loop
-is-refused-requires c κs = search needs
+refuses-requires : tie.Need-refuses-requires Inv-loop μ-loop
+refuses-requires c κs = search needs
 
 refuse-requires : tie.Need-refuse-requires Inv-loop μ-loop
 refuse-requires c κs = search needs
@@ -81,7 +81,7 @@ take-in-spec =
     line-requires
     none-requires
     make-room-requires
-    is-refused-requires
+    refuses-requires
     refuse-requires
     loop-less
     loop-again

@@ -11,7 +11,7 @@ use lib.Seq.{length-take-le, take-length, take-suc, take-at, getD-take, drop-app
 use Rattle.codec.specs.Order.{firstOf}
 use Rattle.codec.specs.Octets.{Octets, octets, number, numberAt}
 use Rattle.codec.specs.Bits.{bits}
-use Rattle.codec.specs.Ring.{form, others, count, limit, zeroBits, addressesOf, badAddress, position, headTests, addressTests, addressesTests, headRefusal, addressRefusal, addressesRefusal, ringRefusal, filled, addressOctets, ringFile, readRing}
+use Rattle.codec.specs.Ring.{form, others, count, limit, zeroBits, addressesOf, badAddress, position, headTests, addressTests, addressesTests, headRefusal, addressRefusal, addressesRefusal, ringRefusal, filled, addressOctets, ringFile, readRing, fileOctets, headLength}
 use Rattle.codec.specs.Ring as ring
 use Rattle.codec.proofs.Laws.Octets.{back}
 use Rattle.codec.proofs.Laws.Order.{first-passed}
@@ -74,7 +74,7 @@ module _ (r : ℕ) (ms : List ℕ) (g : GoodRing r ms) where
   small : Octets s
   small = below-append 256 (octets 2 headNumber) (addressOctets ms) (octets-small 2 headNumber) (addresses-small ms)
 
-  long : length s ≡ 2 + 6 * length ms
+  long : length s ≡ fileOctets (length ms)
   long = length-append (octets 2 headNumber) (addressOctets ms) ∙ ap (λ (n : ℕ). 2 + n) (length-octets-of ms)
 
   -- ---- the head
@@ -114,7 +114,7 @@ module _ (r : ℕ) (ms : List ℕ) (g : GoodRing r ms) where
       let n : 2 ≤ length ms = g .some-members in
       let t : 1 ≤ r = g .some-retry in
       first-passed 0 (headTests s) (
-        le-ltb (length s) 2 (omega (arith, long)),
+        le-ltb (length s) headLength (omega (arith, long)),
         (
           ap not (eq-eqb (form s) 1 (head .form-is)),
           (
@@ -123,7 +123,7 @@ module _ (r : ℕ) (ms : List ℕ) (g : GoodRing r ms) where
               ne-eqb (others s) 0 (λ z. omega (arith, head .others-is)),
               (
                 ne-eqb (limit s) 0 (λ z. omega (arith, head .limit-is)),
-                (ap not (eq-eqb (length s) (2 + 6 * count s) (long ∙ ap (λ (k : ℕ). 2 + 6 * k) (sym count-is))), tt),
+                (ap not (eq-eqb (length s) (fileOctets (count s)) (long ∙ ap fileOctets (sym count-is))), tt),
               ),
             ),
           ),
@@ -132,11 +132,9 @@ module _ (r : ℕ) (ms : List ℕ) (g : GoodRing r ms) where
 
   -- ---- the addresses
 
-  address : (k : ℕ) → k < length ms → bits s (16 + k * 48) 48 ≡ getD ms k 0
+  address : (k : ℕ) → k < length ms → bits s (fileOctets k * 8) 48 ≡ getD ms k 0
   address k h =
-      let place : 16 + k * 48 ≡ (2 + 6 * k) * 8 = omega arith in
-      ap (λ (j : ℕ). bits s j 48) place
-      ∙ bits-octets s (2 + 6 * k) 6 small (omega (arith, long))
+      bits-octets s (fileOctets k) 6 small (omega (arith, long))
       ∙ ap (λ (l : List ℕ). number (take 6 l)) (drop-append-add (octets 2 headNumber) (addressOctets ms) (6 * k))
       ∙ address-at ms k h (g .good k h .fits)
 
@@ -144,7 +142,7 @@ module _ (r : ℕ) (ms : List ℕ) (g : GoodRing r ms) where
   unfolding addressesOf
   first-addresses zero h = refl
   first-addresses (suc k) h =
-      ap (λ (l : List ℕ). l ++ (bits s (16 + k * 48) 48 ∷ [])) (first-addresses k (omega arith))
+      ap (λ (l : List ℕ). l ++ (bits s (fileOctets k * 8) 48 ∷ [])) (first-addresses k (omega arith))
       ∙ ap (λ (a : ℕ). take k ms ++ (a ∷ [])) (address k h)
       ∙ sym (take-suc ms k 0 h)
 

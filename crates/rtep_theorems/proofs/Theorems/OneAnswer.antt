@@ -7,7 +7,7 @@ use lib.ListN.{length}
 use Rattle.codec.proofs.Theorems.OneAnswer.{one-answer}
 use Rattle.packet_codec.specs.Packet.{kept}
 use Rattle.station.specs.declared.station.Answer.{Answer}
-use Rattle.shell.specs.Calls.{Making, Sending, Starting, Hearing, Timing, ringIn, requestOf, Queueing, Taking}
+use Rattle.driver_calls.specs.Calls.{Making, Sending, Starting, Hearing, Timing, ringIn, requestOf, Queueing, Taking}
 use Rattle.rtep.specs.Told.{RingTold, ReadTold, madeOf, WriteTold}
 use Rattle.rtep_theorems.specs.Outcomes.{OneAnswer, Telling, Writing, Made, Sent, Heard, Queued, Taken}
 

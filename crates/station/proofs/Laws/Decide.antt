@@ -10,10 +10,10 @@ use Rattle.parts.specs.Moves.{moveOf, runs, isIdle}
 use Rattle.parts.specs.Messages.{none, best, splitBy}
 use Rattle.parts.specs.Live.{without, successor}
 use Rattle.parts.specs.Frames.{numberOf, flight, noFlight, failingOf}
-use Rattle.plain_rules.specs.Round.{reply, startRound}
-use Rattle.plain_rules.specs.Resend.{resend}
+use Rattle.sent.specs.Round.{reply, startRound}
+use Rattle.sent.specs.Resend.{resend}
 use Rattle.station.specs.Stations.{stationBy, stateOf, awaitedOf, withTurn, quietTurn, quiet, sendingTurn, alone, head, answered, moved, unless}
-use Rattle.station.specs.Round.{sight}
+use Rattle.station.specs.Sight.{sight}
 use Rattle.station.specs.Strike.{Struck}
 use Rattle.station.specs.Start.{sentFirst, started, startRule}
 use Rattle.station.specs.Heard.{Stored, checks, acknowledged, acknowledge, failed, isLast, stops, nothingMore, heardMessage, receive, stored, sendOn, handle, silent, respond, heard, frameRule}
@@ -33,7 +33,7 @@ use Rattle.parts.specs.declared.frame.Frame.{Frame}
 use Rattle.parts.specs.declared.frame.Frame.the-variants.{Token, Transmit, Information}
 use Rattle.parts.specs.declared.frame.Dispatch.{Dispatch}
 use Rattle.parts.specs.declared.frame.Dispatch.the-variants.{Nothing, Sent}
-use Rattle.plain_rules.specs.declared.round.Sight.{Sight}
+use Rattle.sent.specs.declared.round.Sight.{Sight}
 use Rattle.station.specs.declared.station.Handled.the-variants.{Last}
 use Rattle.station.specs.declared.station.Turn.{Turn}
 use Rattle.station.specs.declared.station.Station.{Station}

@@ -9,9 +9,9 @@ use Rattle.parts.specs.Choose.{pick}
 use Rattle.parts.specs.Messages.{none, pushed, splitBy, best, flies, fits}
 use Rattle.parts.specs.Live.{without, successor}
 use Rattle.parts.specs.Frames.{flight, noFlight}
-use Rattle.plain_rules.specs.Heard.{newly}
+use Rattle.parts.specs.Live.{newly}
 use Rattle.station.specs.Stations.{stationBy, withTurn, withSends, withLive, withReceives, withLost, awaitedOf, quiet, quietTurn, addUpTo, counted, alone, head}
-use Rattle.station.specs.Round.{sight}
+use Rattle.station.specs.Sight.{sight}
 use Rattle.station.specs.Strike.{Loss, Struck, strike, nothingGone, giveUpTo, leave, giveUpAt, giveUpFlight, told, stopped}
 use Rattle.station.specs.Heard.{Stored, acknowledged, landed, acknowledge, strikeOther, strikeHeard, failed, receive}
 use Rattle.station.specs.Deeds.{noDeeds, landing, alsoAt, alsoFlight, allStay, leaving, liveAfter, struckBy, left, touched, receivedOne, received, carriedOut, verdict, untouched, spares, storesNone, turnAlone}

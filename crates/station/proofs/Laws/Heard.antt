@@ -7,10 +7,10 @@ use Rattle.parts.specs.Moves.{moveOf, runs}
 use Rattle.parts.specs.Messages.{none, pushed}
 use Rattle.parts.specs.Frames.{numberOf, flight, failingOf}
 use Rattle.station.specs.Stations.{stateOf, awaitedOf, withReceives, withLost, addUpTo, alone}
-use Rattle.station.specs.Round.{sight}
-use Rattle.plain_rules.specs.Round.{reply}
+use Rattle.station.specs.Sight.{sight}
+use Rattle.sent.specs.Round.{reply}
 use Rattle.station.specs.Strike.{Struck}
-use Rattle.plain_rules.specs.Heard.{newly}
+use Rattle.parts.specs.Live.{newly}
 use Rattle.station.specs.Heard.{Stored, landed, acknowledge, strikeOther, strikeHeard, failed, nothingMore, receive, stored, sendOn, handle, silent, respond, heard, checks, frameRule}
 use Rattle.parts.specs.declared.moves.State.the-variants.{Alone, Excluded}
 use Rattle.parts.specs.declared.moves.Event.the-variants.{Heard}
@@ -22,7 +22,7 @@ use Rattle.parts.specs.declared.frame.Frame.{Frame}
 use Rattle.parts.specs.declared.frame.Dispatch.{Dispatch}
 use Rattle.station.specs.declared.station.Station.{Station}
 use Rattle.station.specs.declared.station.Payload.the-variants.{NoPayload, Of}
-use Rattle.plain_rules.specs.declared.round.Sight.{Sight}
+use Rattle.sent.specs.declared.round.Sight.{Sight}
 use Rattle.parts.proofs.Laws.Choose.{pick-true, pick-false}
 use Rattle.station.proofs.Laws.Moved.{moved-runs, unless-passes}
 

@@ -5,11 +5,11 @@ use Prim.Native.Nat.{ℕ, _<_, _≤_}
 use borrow.Author.Tests.{lt-ltb, le-ltb}
 use Rattle.parts.specs.Moves.{moveOf}
 use Rattle.station.specs.Stations.{stateOf, awaitedOf, quiet, alone}
-use Rattle.station.specs.Round.{sight}
+use Rattle.station.specs.Sight.{sight}
 use Rattle.station.specs.Strike.{Struck}
-use Rattle.plain_rules.specs.Heard.{newly}
+use Rattle.parts.specs.Live.{newly}
 use Rattle.station.specs.Timer.{again, unanswered, leftAlone, goesOn, afterStrike, silence, onTimer, timerRule}
-use Rattle.plain_rules.specs.Resend.{resend}
+use Rattle.sent.specs.Resend.{resend}
 use Rattle.parts.specs.declared.moves.State.the-variants.{Idle, Waiting}
 use Rattle.parts.specs.declared.moves.Event.the-variants.{Timer}
 use Rattle.parts.specs.declared.frame.Whom.{Whom}
@@ -17,7 +17,7 @@ use Rattle.parts.specs.declared.frame.Frame.{Frame}
 use Rattle.parts.specs.declared.frame.Dispatch.{Dispatch}
 use Rattle.parts.specs.declared.frame.Dispatch.the-variants.{Sent}
 use Rattle.station.specs.declared.station.Station.{Station}
-use Rattle.plain_rules.specs.declared.round.Sight.{Sight}
+use Rattle.sent.specs.declared.round.Sight.{Sight}
 use Rattle.parts.proofs.Laws.Choose.{pick-true, pick-false}
 use Rattle.station.proofs.Laws.Moved.{moved-runs}
 

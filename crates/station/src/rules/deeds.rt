@@ -93,7 +93,7 @@ pub fn no_deeds() -> Deeds
 }
 
 // Whether the turn alone changes.
-pub fn is_untouched(d: Deeds) -> bool
+pub fn untouched(d: Deeds) -> bool
     ensures { λ r. ⌜ r ≡ untouched d ⌝ }
 {
     if d.lands.on {
@@ -117,7 +117,7 @@ pub fn is_untouched(d: Deeds) -> bool
 pub fn verdict_of(number: u32, turn: Turn, sent: Dispatch, deeds: Deeds) -> Verdict
     ensures { λ r. ⌜ r ≡ verdict number turn sent deeds ⌝ }
 {
-    let alone = is_untouched(deeds);
+    let alone = untouched(deeds);
     Verdict {
         alone,
         turn,
@@ -227,9 +227,9 @@ pub fn live_after(live: Live, blow: Blow) -> Live
 {
     match blow {
         Blow::Spares => live,
-        Blow::Another(p) => parts::live::struck_from(live, p as usize),
-        Blow::Last(p) => parts::live::struck_from(live, p as usize),
-        Blow::Itself(p) => parts::live::struck_from(live, p as usize),
+        Blow::Another(p) => parts::live::without(live, p as usize),
+        Blow::Last(p) => parts::live::without(live, p as usize),
+        Blow::Itself(p) => parts::live::without(live, p as usize),
     }
 }
 
@@ -238,16 +238,16 @@ pub fn struck_by(live: Live, blow: Blow) -> Whom
 {
     match blow {
         Blow::Spares => Whom::Nobody,
-        Blow::Another(p) => plain_rules::heard::newly_struck(live, p),
-        Blow::Last(p) => plain_rules::heard::newly_struck(live, p),
-        Blow::Itself(p) => plain_rules::heard::newly_struck(live, p),
+        Blow::Another(p) => parts::live::newly(live, p),
+        Blow::Last(p) => parts::live::newly(live, p),
+        Blow::Itself(p) => parts::live::newly(live, p),
     }
 }
 
 // ---- all of it
 
 // Stored, or counted lost.
-pub fn receive_one(l: Messages, lost: u32, m: Message) -> Received
+pub fn received_one(l: Messages, lost: u32, m: Message) -> Received
     ensures { λ r. ⌜ r ≡ receivedOne l lost m ⌝ }
 {
     if 16 <= l.len {
@@ -275,7 +275,7 @@ pub fn receive(l: Messages, lost: u32, stores: Payload) -> Received
             lost,
             payload: Payload::NoPayload,
         },
-        Payload::Of(m) => receive_one(l, lost, m),
+        Payload::Of(m) => received_one(l, lost, m),
     }
 }
 
@@ -327,7 +327,7 @@ pub fn turn_alone(s: Station, v: Verdict) -> Answer
 }
 
 // What was decided is done, the lists and the live set too.
-pub fn carry_out(s: Station, v: Verdict) -> Answer
+pub fn carried_out(s: Station, v: Verdict) -> Answer
     ensures { λ r. ⌜ r ≡ carriedOut s v ⌝ }
 {
     let d = v.deeds;

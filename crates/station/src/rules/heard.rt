@@ -28,22 +28,22 @@ pub struct Course {
 }
 
 // 1. Checks.
-pub fn check_heard(s: Station, from: u8, to: u8) -> u32
+pub fn checks(s: Station, from: u8, to: u8) -> u32
     ensures { λ r. ⌜ r ≡ checks s from to ⌝ }
 {
-    let alive = parts::live::is_live(s.live, from as usize);
-    plain_rules::refusals::heard_refusal(s.n, s.own, alive, from, to)
+    let alive = parts::live::live_at(s.live, from as usize);
+    parts::refusals::heard_refusal(s.n, s.own, alive, from, to)
 }
 
 // 2. Acknowledgement.
-pub fn is_acknowledged(s: Station, from: u8, k: u16) -> bool
+pub fn acknowledged(s: Station, from: u8, k: u16) -> bool
     ensures { λ r. ⌜ r ≡ acknowledged s from k ⌝ }
 {
     let turn = s.turn;
     let state = turn.state;
     if parts::moves::is_waiting(state) {
         let awaited = turn.awaited;
-        return plain_rules::heard::acks(awaited, from, k);
+        return parts::frame::acknowledges(awaited, from, k);
     }
     false
 }
@@ -63,7 +63,7 @@ pub fn lands_by(t: Turn, acked: bool) -> Flight
 {
     if acked {
         let awaited = t.awaited;
-        return parts::frame::flight_of(awaited);
+        return parts::frame::flight(awaited);
     }
     Flight {
         on: false,
@@ -78,8 +78,8 @@ pub fn blow_at(live: Live, n: u8, own: u8, p: u8) -> Blow
     if p == own {
         return Blow::Itself(p);
     }
-    let rest = parts::live::struck_from(live, p as usize);
-    let next = parts::live::next_live(rest, n, own);
+    let rest = parts::live::without(live, p as usize);
+    let next = parts::live::successor(rest, n, own);
     if next == own {
         return Blow::Last(p);
     }
@@ -113,8 +113,8 @@ pub fn course_of(s: Station, f: Frame, acked: bool) -> Course
     let t = rest(s.turn, acked);
     let lands = lands_by(s.turn, acked);
     let awaited = t.awaited;
-    let flight = parts::frame::flight_of(awaited);
-    let w = plain_rules::heard::failing_of(f);
+    let flight = parts::frame::flight(awaited);
+    let w = parts::frame::failing_of(f);
     let blow = blow_of(s.live, s.n, s.own, w);
     let turn = close(t, blow);
     let deeds = Deeds {
@@ -194,7 +194,7 @@ pub fn stores_too(d: Deeds, stores: Payload) -> Deeds
     }
 }
 
-pub fn stay_quiet(k: Course) -> Verdict
+pub fn quietly(k: Course) -> Verdict
     ensures { λ r. ⌜ r ≡ quietly k ⌝ }
 {
     let turn = k.turn;
@@ -207,9 +207,9 @@ pub fn reply(s: Station, f: Frame, from: u8, k: Course) -> Verdict
     ensures { λ r. ⌜ r ≡ replying s f from k ⌝ }
 {
     let number = parts::frame::number_of(f);
-    let w = plain_rules::heard::failing_of(f);
-    let v = crate::rules::round::look_after(s, w);
-    let sent = plain_rules::round::reply_to(v, f);
+    let w = parts::frame::failing_of(f);
+    let v = crate::rules::sight::look_after(s, w);
+    let sent = sent::round::reply(v, f);
     let handled = Handled::Last(number);
     let turn = crate::station::waiting(handled, sent);
     let stores = to_store(s, from, f);
@@ -222,7 +222,7 @@ pub fn hear(s: Station, f: Frame, from: u8, to: u8, k: Course) -> Verdict
 {
     let number = parts::frame::number_of(f);
     if nothing_more(s.own, k.turn, to, number) {
-        return stay_quiet(k);
+        return quietly(k);
     }
     reply(s, f, from, k)
 }
@@ -238,12 +238,12 @@ impl Station {
         if m != parts::moves::RUN {
             return crate::rules::deeds::refuse(turn, m);
         }
-        let k = check_heard(self, from, to);
+        let k = checks(self, from, to);
         if k != 0 {
             return crate::rules::deeds::refuse(turn, k);
         }
         let number = parts::frame::number_of(f);
-        let acked = is_acknowledged(self, from, number);
+        let acked = acknowledged(self, from, number);
         let course = course_of(self, f, acked);
         hear(self, f, from, to, course)
     }
@@ -270,6 +270,6 @@ impl Station {
         if v.alone {
             return crate::rules::deeds::turn_alone(self, v);
         }
-        crate::rules::deeds::carry_out(self, v)
+        crate::rules::deeds::carried_out(self, v)
     }
 }

@@ -11,12 +11,12 @@ use parts::list::Message;
 use parts::moves::Event;
 use parts::request::Request;
 
-pub fn check_queue(s: Station, q: Request) -> u32
+pub fn queue_number(s: Station, q: Request) -> u32
     ensures { λ r. ⌜ r ≡ queueNumber s q ⌝ }
 {
-    let live = parts::live::is_live(s.live, q.to);
+    let live = parts::live::live_at(s.live, q.to);
     let l = s.sends;
-    plain_rules::refusals::queue_refusal(s.n, s.own, live, l.len, q)
+    parts::refusals::queue_refusal(s.n, s.own, live, l.len, q)
 }
 
 pub fn join(s: Station, m: Message) -> Answer
@@ -53,11 +53,11 @@ impl Station {
         let state = turn.state;
         let m = parts::moves::move_of(state, Event::Queue);
         if m != parts::moves::RUN {
-            return crate::station::number_alone(self, m);
+            return crate::station::answered(self, m);
         }
-        let k = check_queue(self, q);
+        let k = queue_number(self, q);
         if k != 0 {
-            return crate::station::number_alone(self, k);
+            return crate::station::answered(self, k);
         }
         accept(self, q)
     }

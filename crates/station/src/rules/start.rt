@@ -10,13 +10,13 @@ use parts::frame::Whom;
 use parts::moves::Event;
 use parts::moves::State;
 
-pub fn starting_of(s: Station) -> Verdict
+pub fn starting(s: Station) -> Verdict
     ensures { λ r. ⌜ r ≡ starting s ⌝ }
 {
     let turn = s.turn;
     if s.own == 0 {
-        let v = crate::rules::round::look(s);
-        let d = plain_rules::round::round_from(v, 0, Whom::Nobody);
+        let v = crate::rules::sight::look(s);
+        let d = sent::round::start_round(v, 0, Whom::Nobody);
         let handled = turn.handled;
         let next = crate::station::waiting(handled, d);
         return crate::rules::deeds::turn_to(next, d);
@@ -34,9 +34,9 @@ impl Station {
         let state = turn.state;
         let m = parts::moves::move_of(state, Event::Start);
         if m != parts::moves::RUN {
-            return crate::station::number_alone(self, m);
+            return crate::station::answered(self, m);
         }
-        let v = starting_of(self);
+        let v = starting(self);
         crate::rules::deeds::turn_alone(self, v)
     }
 }

@@ -18,7 +18,7 @@ pub fn best_on(s: Station, channel: usize) -> Best
     parts::list::choose(s.receives, w)
 }
 
-pub fn hand_out(s: Station, m: Message) -> Answer
+pub fn taking(s: Station, m: Message) -> Answer
     ensures { λ r. ⌜ r ≡ taking s m ⌝ }
 {
     let w = Which::HasPlace(m.place);
@@ -44,13 +44,13 @@ impl Station {
         let state = turn.state;
         let m = parts::moves::move_of(state, Event::Take);
         if m != parts::moves::RUN {
-            return crate::station::number_alone(self, m);
+            return crate::station::answered(self, m);
         }
         let b = best_on(self, channel);
-        let k = plain_rules::refusals::take_refusal(channel, b, room);
+        let k = parts::refusals::take_refusal(channel, b, room);
         if k != 0 {
-            return crate::station::number_alone(self, k);
+            return crate::station::answered(self, k);
         }
-        hand_out(self, b.message)
+        taking(self, b.message)
     }
 }

@@ -16,12 +16,12 @@ use parts::moves::Event;
 use parts::moves::State;
 
 // The addressee is struck, and what goes with it is given up.
-pub fn strike_out(s: Station, to: u8, turn: Turn, sent: Dispatch) -> Verdict
+pub fn strikes_out(s: Station, to: u8, turn: Turn, sent: Dispatch) -> Verdict
     ensures { λ r. ⌜ r ≡ strikesOut s to turn sent ⌝ }
 {
     let t = s.turn;
     let awaited = t.awaited;
-    let flight = parts::frame::flight_of(awaited);
+    let flight = parts::frame::flight(awaited);
     let deeds = Deeds {
         lands: Flight {
             on: false,
@@ -34,30 +34,30 @@ pub fn strike_out(s: Station, to: u8, turn: Turn, sent: Dispatch) -> Verdict
     crate::rules::deeds::verdict_of(0, turn, sent, deeds)
 }
 
-pub fn go_on(s: Station, to: u8, d: Dispatch) -> Verdict
+pub fn going_on(s: Station, to: u8, d: Dispatch) -> Verdict
     ensures { λ r. ⌜ r ≡ goingOn s to d ⌝ }
 {
     let t = s.turn;
     let handled = t.handled;
     let turn = crate::station::waiting(handled, d);
-    strike_out(s, to, turn, d)
+    strikes_out(s, to, turn, d)
 }
 
 pub fn last_timer(s: Station, to: u8, f: Frame) -> Verdict
     ensures { λ r. ⌜ r ≡ lastTimer s to f ⌝ }
 {
-    let v = crate::rules::round::look_without(s, to);
+    let v = crate::rules::sight::look_without(s, to);
     if v.next == s.own {
         let turn = crate::station::resting(s.turn, State::Alone);
-        return strike_out(s, to, turn, Dispatch::Nothing);
+        return strikes_out(s, to, turn, Dispatch::Nothing);
     }
-    let d = plain_rules::resend::send_instead(v, to, f);
-    go_on(s, to, d)
+    let d = sent::resend::resend(v, to, f);
+    going_on(s, to, d)
 }
 
 impl Station {
     // The timer of a frame to `to` runs.
-    pub fn wait_on(self, to: u8, f: Frame) -> Answer
+    pub fn silence(self, to: u8, f: Frame) -> Answer
         ensures { λ r. ⌜ r ≡ silence self to f ⌝ }
     {
         let t = self.turn;
@@ -68,7 +68,7 @@ impl Station {
             return crate::rules::deeds::turn_alone(self, v);
         }
         let v = last_timer(self, to, f);
-        crate::rules::deeds::carry_out(self, v)
+        crate::rules::deeds::carried_out(self, v)
     }
 
     // The timer runs.
@@ -79,12 +79,12 @@ impl Station {
         let state = turn.state;
         let m = parts::moves::move_of(state, Event::Timer);
         if m != parts::moves::RUN {
-            return crate::station::number_alone(self, m);
+            return crate::station::answered(self, m);
         }
         let awaited = turn.awaited;
         match awaited {
-            Dispatch::Nothing => crate::station::number_alone(self, 0),
-            Dispatch::Sent { frame, to } => self.wait_on(to, frame),
+            Dispatch::Nothing => crate::station::answered(self, 0),
+            Dispatch::Sent { frame, to } => self.silence(to, frame),
         }
     }
 }

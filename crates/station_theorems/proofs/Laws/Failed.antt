@@ -12,7 +12,7 @@ use Rattle.parts.specs.Live.{liveAt, without}
 use Rattle.parts.specs.Frames.{flight}
 use Rattle.station.specs.Stations.{stateOf, awaitedOf, alone, quiet, counted, withSends}
 use Rattle.station.specs.Strike.{Loss, strike, nothingGone, giveUpTo, leave, told, stopped}
-use Rattle.plain_rules.specs.Heard.{newly}
+use Rattle.parts.specs.Live.{newly}
 use Rattle.station.specs.Heard.{strikeOther, strikeHeard, failed}
 use Rattle.wholeness.specs.Whole.{ownSeat, otherSeat, companyGood, listGood, waitersGood, awaitedGood}
 use Rattle.parts.specs.declared.moves.State.the-variants.{Alone, Excluded}

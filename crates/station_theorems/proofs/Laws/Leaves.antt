@@ -10,7 +10,7 @@ use lib.ListN.{length}
 use Rattle.parts.specs.Messages.{all, none, fits, only}
 use Rattle.station.specs.Stations.{alone}
 use Rattle.station.specs.Strike.{Struck, strike, nothingGone, giveUpTo, giveUpFlight}
-use Rattle.plain_rules.specs.Heard.{newly}
+use Rattle.parts.specs.Live.{newly}
 use Rattle.station.specs.Heard.{landed, strikeOther, strikeHeard, failed}
 use Rattle.wholeness.specs.Whole.{apart}
 use Rattle.parts.specs.declared.list.Message.{Message}

@@ -10,9 +10,9 @@ use Rattle.parts.specs.Messages.{all, best, theBest}
 use Rattle.parts.specs.Live.{liveAt, successor}
 use Rattle.parts.specs.Frames.{next, memberOrNobody, fit}
 use Rattle.station.specs.Stations.{alone, head}
-use Rattle.station.specs.Round.{sight}
-use Rattle.plain_rules.specs.Round.{startRound, carrying, informationOf, sendHead, granting, grant, returned, bidOf, ownBid, cleared, raised, forward, passOn, onToken, reply}
-use Rattle.plain_rules.specs.Resend.{renamed, tokenAgain, resend}
+use Rattle.station.specs.Sight.{sight}
+use Rattle.sent.specs.Round.{startRound, carrying, informationOf, sendHead, granting, grant, returned, bidOf, ownBid, cleared, raised, forward, passOn, onToken, reply}
+use Rattle.sent.specs.Resend.{renamed, tokenAgain, resend}
 use Rattle.wholeness.specs.Whole.{messageGood, listGood, sameMessage, carried, awaitedGood}
 use Rattle.parts.specs.declared.moves.State.the-variants.{Waiting}
 use Rattle.parts.specs.declared.list.Message.{Message}
@@ -24,7 +24,7 @@ use Rattle.parts.specs.declared.frame.Frame.{Frame}
 use Rattle.parts.specs.declared.frame.Frame.the-variants.{Token, Transmit, Information}
 use Rattle.parts.specs.declared.frame.Dispatch.{Dispatch}
 use Rattle.parts.specs.declared.frame.Dispatch.the-variants.{Sent}
-use Rattle.plain_rules.specs.declared.round.Bid.{Bid}
+use Rattle.sent.specs.declared.round.Bid.{Bid}
 use Rattle.station.specs.declared.station.Station.{Station}
 use Rattle.parts.proofs.Laws.Choose.{pick-false}
 use Rattle.parts.proofs.Laws.Tests.{held, hold}

@@ -13,8 +13,8 @@ use Rattle.parts.specs.Messages.{all, pack, pushed, only, fits, splitBy, noBest
 use Rattle.parts.specs.Live.{liveAt}
 use Rattle.parts.specs.Frames.{next}
 use Rattle.station.specs.Stations.{addUpTo, head}
-use Rattle.station.specs.Round.{sight}
-use Rattle.plain_rules.specs.Round.{priorityOf, startRound, sendHead, grant, returned, bidOf, cleared, raised, passOn, onToken, reply}
+use Rattle.station.specs.Sight.{sight}
+use Rattle.sent.specs.Round.{priorityOf, startRound, sendHead, grant, returned, bidOf, cleared, raised, passOn, onToken, reply}
 use Rattle.parts.specs.declared.list.Message.{Message}
 use Rattle.parts.specs.declared.list.Messages.{Messages}
 use Rattle.parts.specs.declared.list.Which.{Which}
@@ -24,8 +24,8 @@ use Rattle.parts.specs.declared.frame.Whom.the-variants.{Nobody}
 use Rattle.parts.specs.declared.frame.TokenFrame.{TokenFrame}
 use Rattle.parts.specs.declared.frame.Frame.{Frame}
 use Rattle.parts.specs.declared.frame.Frame.the-variants.{Token, Transmit, Information}
-use Rattle.plain_rules.specs.declared.round.Bid.{Bid}
-use Rattle.plain_rules.specs.declared.round.Sight.{Sight}
+use Rattle.sent.specs.declared.round.Bid.{Bid}
+use Rattle.sent.specs.declared.round.Sight.{Sight}
 use Rattle.parts.proofs.Laws.Messages.{only-length, pushed-full}
 use Rattle.parts.proofs.Laws.Tests.{each-first, each-rest, each-snoc}
 use Rattle.station_theorems.specs.Small.{smallMessage, SmallFrame, SmallDispatch, SmallList}

@@ -12,7 +12,7 @@ use Rattle.parts.specs.Live.{liveAt, without}
 use Rattle.parts.specs.Messages.{all, none, blank, pack, pushed, splitBy}
 use Rattle.station.specs.Stations.{withSends, addUpTo}
 use Rattle.station.specs.Strike.{Loss, strike, nothingGone, giveUpTo, giveUpAt, giveUpFlight, told}
-use Rattle.plain_rules.specs.Heard.{newly}
+use Rattle.parts.specs.Live.{newly}
 use Rattle.parts.specs.declared.live.Live.{Live}
 use Rattle.parts.specs.declared.list.Message.{Message}
 use Rattle.parts.specs.declared.list.Messages.{Messages}

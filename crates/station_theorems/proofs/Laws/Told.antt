@@ -8,7 +8,7 @@ use Rattle.parts.specs.Moves.{moveOf, runs}
 use Rattle.parts.specs.Frames.{numberOf, failingOf}
 use Rattle.station.specs.Stations.{stateOf, awaitedOf, quiet, answered, moved, unless}
 use Rattle.station.specs.Strike.{Loss, Struck, strike, nothingGone, giveUpTo, stopped}
-use Rattle.plain_rules.specs.Heard.{newly}
+use Rattle.parts.specs.Live.{newly}
 use Rattle.station.specs.Heard.{Stored, landed, acknowledge, strikeOther, strikeHeard, failed, receive, stored, handle, respond, heard, checks, frameRule}
 use Rattle.station.specs.Timer.{again, unanswered, afterStrike, silence, onTimer, timerRule}
 use Rattle.parts.specs.declared.moves.State.{State}

@@ -14,7 +14,7 @@ use Rattle.parts.specs.Frames.{numberOf, failingOf, fit}
 use Rattle.station.specs.Strike.{Struck}
 use Rattle.station.specs.Stations.{stateOf}
 use Rattle.station.specs.Heard.{acknowledge, failed, nothingMore, stored, handle, silent, respond, heard, frameRule}
-use Rattle.plain_rules.specs.Refusals.{heardRefusal}
+use Rattle.parts.specs.Refusals.{heardRefusal}
 use Rattle.parts.specs.declared.moves.State.the-variants.{Idle}
 use Rattle.parts.specs.declared.moves.Event.the-variants.{Heard}
 use Rattle.parts.specs.declared.frame.Frame.{Frame}

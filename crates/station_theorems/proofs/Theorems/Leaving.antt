@@ -35,7 +35,7 @@ use Rattle.station_theorems.proofs.Laws.Telling.{pick-either}
 use Rattle.station_theorems.proofs.Laws.Told.{either-frame, either-timer}
 use Rattle.station.proofs.Laws.Moved.{moved-runs, unless-passes}
 use Rattle.station.proofs.Laws.Heard.{frame-runs}
-use Rattle.plain_rules.proofs.Laws.Queue.{queue-good}
+use Rattle.parts.proofs.Laws.Queue.{queue-good}
 use Rattle.station_theorems.proofs.Laws.Kept.{list-short, list-apart, push-all}
 use Rattle.station_theorems.proofs.Laws.Places.{place-nobodys}
 use Rattle.station_theorems.proofs.Laws.Sound.{sound}

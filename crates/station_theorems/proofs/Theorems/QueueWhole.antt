@@ -28,7 +28,7 @@ use Rattle.station.specs.declared.station.Station.{Station}
 use Rattle.parts.proofs.Laws.Choose.{pick-true, pick-false}
 use Rattle.station_theorems.specs.Shaped.{WholeStation}
 use Rattle.station_theorems.proofs.Laws.Places.{lowest-free-free, lowest-free-room}
-use Rattle.plain_rules.proofs.Laws.Queue.{queue-good}
+use Rattle.parts.proofs.Laws.Queue.{queue-good}
 use Rattle.parts.proofs.Laws.Tests.{held, hold, each-snoc}
 use Rattle.station_theorems.proofs.Laws.Kept.{push-all, push-length, list-pushed}
 use Rattle.station_theorems.proofs.Laws.Carried.{best-pushed}

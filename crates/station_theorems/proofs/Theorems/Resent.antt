@@ -11,7 +11,7 @@ use Rattle.parts.specs.Live.{liveAt}
 use Rattle.parts.specs.Frames.{numberOf}
 use Rattle.station.specs.Stations.{stateOf, alone}
 use Rattle.station.specs.Strike.{Struck, strike, giveUpTo, told}
-use Rattle.plain_rules.specs.Heard.{newly}
+use Rattle.parts.specs.Live.{newly}
 use Rattle.station.specs.Heard.{acknowledged, acknowledge, strikeOther, strikeHeard, failed, isLast, nothingMore, respond, heard, frameRule, silent}
 use Rattle.station.specs.Timer.{unanswered, afterStrike, timerRule}
 use Rattle.parts.specs.declared.moves.State.the-variants.{Waiting}

@@ -10,8 +10,8 @@ use Rattle.parts.specs.Moves.{isWaiting, isExcluded}
 use Rattle.parts.specs.Live.{liveAt, successor}
 use Rattle.parts.specs.Frames.{noFlight}
 use Rattle.station.specs.Stations.{stateOf, awaitedOf, alone, answered, quiet}
-use Rattle.station.specs.Round.{sight}
-use Rattle.plain_rules.specs.Round.{startRound}
+use Rattle.station.specs.Sight.{sight}
+use Rattle.sent.specs.Round.{startRound}
 use Rattle.station.specs.Start.{sentFirst, started, startRule}
 use Rattle.wholeness.specs.Whole.{ownSeat, otherSeat}
 use Rattle.parts.specs.declared.moves.State.the-variants.{Offline, Idle}

@@ -12,13 +12,13 @@ use Rattle.parts.specs.Messages.{all, pushed}
 use Rattle.parts.specs.Live.{liveAt}
 use Rattle.parts.specs.Frames.{numberOf, next, failingOf, flight}
 use Rattle.station.specs.Stations.{awaitedOf, made, withSends, withLive, quiet, sending, head, answered, moved, unless, alone}
-use Rattle.plain_rules.specs.Round.{bidOf, ownBid, forward, startRound}
+use Rattle.sent.specs.Round.{bidOf, ownBid, forward, startRound}
 use Rattle.station.specs.Start.{started, startRule}
 use Rattle.station.specs.Strike.{Loss, Struck, strike, giveUpTo, giveUpAt, giveUpFlight, leave, messageAt, nothingGone, told, stopped}
-use Rattle.plain_rules.specs.Heard.{newly}
+use Rattle.parts.specs.Live.{newly}
 use Rattle.station.specs.Heard.{Stored, acknowledged, landed, acknowledge, strikeOther, strikeHeard, failed, nothingMore, heardMessage, receive, stored, handle, respond, heard, frameRule}
 use Rattle.station.specs.Timer.{unanswered, afterStrike, silence, onTimer, timerRule}
-use Rattle.plain_rules.specs.Resend.{tokenAgain, renamed, resend}
+use Rattle.sent.specs.Resend.{tokenAgain, renamed, resend}
 use Rattle.station.specs.Queue.{queueNumber, newMessage, accepted, queueRule}
 use Rattle.station.specs.Take.{taking, takeRule}
 use Rattle.parts.specs.declared.list.Message.{Message}
@@ -34,14 +34,14 @@ use Rattle.parts.specs.declared.frame.Dispatch.the-variants.{Nothing, Sent}
 use Rattle.parts.specs.declared.moves.Event.{Event}
 use Rattle.parts.specs.declared.moves.State.{State}
 use Rattle.parts.specs.declared.moves.State.the-variants.{Idle, Alone, Excluded}
-use Rattle.plain_rules.specs.declared.round.Sight.{Sight}
-use Rattle.plain_rules.specs.declared.round.Bid.{Bid}
+use Rattle.sent.specs.declared.round.Sight.{Sight}
+use Rattle.sent.specs.declared.round.Bid.{Bid}
 use Rattle.station.specs.declared.station.Handled.{Handled}
 use Rattle.station.specs.declared.station.Handled.the-variants.{Last}
 use Rattle.station.specs.declared.station.Station.{Station}
 use Rattle.station.specs.declared.station.Answer.{Answer}
 use Rattle.parts.proofs.Laws.Tests.{each-none}
-use Rattle.plain_rules.proofs.Laws.Queue.{queue-good}
+use Rattle.parts.proofs.Laws.Queue.{queue-good}
 use Rattle.station_theorems.specs.Small.{Small, SmallFrame, SmallDispatch, SmallHandled, SmallList}
 use Rattle.station_theorems.proofs.Laws.Small.{SmallBest, pick-keeps, pick-keeps-if, split-small, push-small, best-small, add-small, next-small, start-small, reply-small, own-small, send-small}
 

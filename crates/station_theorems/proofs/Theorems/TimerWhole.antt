@@ -9,10 +9,10 @@ use Rattle.parts.specs.Choose.{pick}
 use Rattle.parts.specs.Moves.{moveOf, runs}
 use Rattle.parts.specs.Frames.{noFlight, flight, fit}
 use Rattle.station.specs.Stations.{stateOf, awaitedOf, alone, quiet, counted}
-use Rattle.station.specs.Round.{sight}
+use Rattle.station.specs.Sight.{sight}
 use Rattle.station.specs.Strike.{Loss, Struck, strike, giveUpTo}
 use Rattle.station.specs.Timer.{again, leftAlone, goesOn, unanswered, afterStrike, silence, onTimer, timerRule}
-use Rattle.plain_rules.specs.Resend.{resend}
+use Rattle.sent.specs.Resend.{resend}
 use Rattle.wholeness.specs.Whole.{awaitedGood}
 use Rattle.parts.specs.declared.moves.State.{State}
 use Rattle.parts.specs.declared.moves.State.the-variants.{Idle}

@@ -3,7 +3,7 @@
 use mathlib.Core.Path.{_≡_}
 use Prim.Native.Nat.{ℕ, _+_, _*_, _-_, _<_, _≤_}
 use native.Mathlib.Omega.{arith}
-use Rattle.plain_rules.specs.Round.{priorityOf, informationOf}
+use Rattle.sent.specs.Round.{priorityOf, informationOf}
 use Rattle.parts.specs.Frames.{flightIn, noFlight}
 use Rattle.parts.specs.Messages.{theBest}
 use Rattle.parts.specs.declared.list.Best.{Best}

@@ -20,7 +20,7 @@ use Rattle.parts.specs.declared.list.Flight.{Flight}
 use Rattle.parts.specs.declared.list.Message.{Message}
 use Rattle.parts.specs.declared.request.Request.{Request}
 use Rattle.station.specs.declared.station.Station.{Station}
-use Rattle.plain_rules.proofs.Laws.Queue.{queue-good}
+use Rattle.parts.proofs.Laws.Queue.{queue-good}
 use Rattle.station_theorems.specs.Shaped.{WholeStation}
 use Rattle.station_theorems.proofs.Laws.Based.{in-flight}
 use Rattle.station_theorems.proofs.Laws.Carried.{best-somewhere}

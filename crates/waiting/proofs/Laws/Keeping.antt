@@ -3,7 +3,7 @@ use mathlib.Core.Path.{_≡_, sym, subst, _∙_}
 use mathlib.Core.Bool.{true, false, false≢true}
 use mathlib.Core.List.{List, [], _∷_, _++_}
 use Prim.Native.Nat.{ℕ, _+_, _*_, _≤_}
-use Rattle.plain_rules.specs.Round.{informationOf}
+use Rattle.sent.specs.Round.{informationOf}
 use Rattle.parts.specs.declared.list.Message.{Message}
 use Rattle.bench.specs.Delivery.{step}
 use Rattle.bench.specs.Calls.{queue}

@@ -6,7 +6,7 @@ use Prim.Native.Nat.{ℕ}
 use lib.Dec.{eqb}
 use borrow.Author.Tests.{eqb-true, eq-eqb}
 use Rattle.parts.specs.Frames.{flightIn, noFlight}
-use Rattle.plain_rules.specs.Round.{informationOf}
+use Rattle.sent.specs.Round.{informationOf}
 use Rattle.parts.specs.declared.list.Flight.{Flight}
 use Rattle.parts.specs.declared.list.Message.{Message}
 use Rattle.parts.specs.declared.frame.Frame.{Frame}

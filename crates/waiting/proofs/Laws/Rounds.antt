@@ -7,7 +7,7 @@ use lib.Dec.{eqb}
 use borrow.Author.Tests.{eqb-true, eqb-false}
 use Rattle.parts.specs.Choose.{pick}
 use Rattle.parts.specs.Messages.{theBest}
-use Rattle.plain_rules.specs.Round.{priorityOf, opening, granting, startRound, informationOf, sendHead, grant}
+use Rattle.sent.specs.Round.{priorityOf, opening, granting, startRound, informationOf, sendHead, grant}
 use Rattle.parts.specs.declared.list.Best.{Best}
 use Rattle.parts.specs.declared.list.Message.{Message}
 use Rattle.parts.specs.declared.frame.Whom.the-variants.{Nobody}

@@ -9,7 +9,7 @@ use borrow.Author.Tests.{eq-eqb, ne-eqb}
 use Rattle.parts.specs.Messages.{all}
 use Rattle.parts.specs.Frames.{flight, flightIn}
 use Rattle.station.specs.Stations.{awaitedOf}
-use Rattle.plain_rules.specs.Round.{reply}
+use Rattle.sent.specs.Round.{reply}
 use Rattle.parts.specs.declared.list.Message.{Message}
 use Rattle.parts.specs.declared.frame.TokenFrame.{TokenFrame}
 use Rattle.parts.specs.declared.frame.TransmitFrame.{TransmitFrame}

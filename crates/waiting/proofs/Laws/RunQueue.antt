@@ -16,7 +16,7 @@ use Rattle.parts.specs.Live.{liveAt, seats}
 use Rattle.parts.specs.Frames.{flight}
 use Rattle.station.specs.Stations.{stateOf, awaitedOf}
 use Rattle.station.specs.Queue.{accepted, queueNumber, queueRule}
-use Rattle.plain_rules.specs.Refusals.{queueRefusal}
+use Rattle.parts.specs.Refusals.{queueRefusal}
 use Rattle.parts.specs.declared.moves.Event.the-variants.{Queue}
 use Rattle.parts.specs.declared.live.Live.{Live}
 use Rattle.parts.specs.declared.list.Message.{Message}

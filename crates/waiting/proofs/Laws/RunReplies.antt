@@ -6,7 +6,7 @@ use Prim.Native.Nat.{ℕ, _<_, _≤_}
 use borrow.Author.Tests.{lt-ltb, le-ltb, eq-eqb, ne-eqb}
 use Rattle.parts.specs.Live.{after}
 use Rattle.parts.specs.Frames.{next}
-use Rattle.plain_rules.specs.Round.{priorityOf, opening, granting, passing, startRound, informationOf, sendHead, grant, returned, bidOf, ownBid, cleared, raised, forward, passOn, onToken, reply}
+use Rattle.sent.specs.Round.{priorityOf, opening, granting, passing, startRound, informationOf, sendHead, grant, returned, bidOf, ownBid, cleared, raised, forward, passOn, onToken, reply}
 use Rattle.parts.specs.declared.list.Best.{Best}
 use Rattle.parts.specs.declared.frame.Whom.the-variants.{Nobody}
 use Rattle.parts.specs.declared.frame.TokenFrame.{TokenFrame}
@@ -14,7 +14,7 @@ use Rattle.parts.specs.declared.frame.TransmitFrame.{TransmitFrame}
 use Rattle.parts.specs.declared.frame.InformationFrame.{InformationFrame}
 use Rattle.parts.specs.declared.frame.Frame.the-variants.{Token, Transmit, Information}
 use Rattle.parts.specs.declared.frame.Dispatch.the-variants.{Sent}
-use Rattle.plain_rules.specs.declared.round.Bid.{Bid}
+use Rattle.sent.specs.declared.round.Bid.{Bid}
 use Rattle.parts.proofs.Laws.Choose.{pick-true, pick-false}
 use Rattle.bench_theorems.proofs.Laws.FullSet.{full-live}
 use Rattle.bench_theorems.proofs.Laws.Answering.{view}

@@ -9,7 +9,7 @@ use lib.Dec.{eqb}
 use borrow.Author.Tests.{eqb-true, eqb-false}
 use Rattle.parts.specs.Frames.{flight, flightIn}
 use Rattle.station.specs.Stations.{head}
-use Rattle.plain_rules.specs.Round.{reply}
+use Rattle.sent.specs.Round.{reply}
 use Rattle.parts.specs.declared.list.Message.{Message}
 use Rattle.parts.specs.declared.frame.Frame.{Frame}
 use Rattle.parts.specs.declared.frame.Dispatch.{Dispatch}

@@ -4,8 +4,8 @@ use Prim.Native.Nat.{ℕ, _<_}
 use Rattle.parts.specs.Messages.{all}
 use Rattle.parts.specs.Frames.{numberOf, flight, noFlight}
 use Rattle.station.specs.Stations.{awaitedOf}
-use Rattle.station.specs.Round.{sight}
-use Rattle.plain_rules.specs.Round.{reply}
+use Rattle.station.specs.Sight.{sight}
+use Rattle.sent.specs.Round.{reply}
 use Rattle.station.specs.Heard.{acknowledge, stored, frameRule}
 use Rattle.parts.specs.declared.list.Flight.{Flight}
 use Rattle.parts.specs.declared.frame.Frame.{Frame}

@@ -7,7 +7,7 @@ use native.Mathlib.Omega.{arith}
 use Rattle.parts.specs.Choose.{pick}
 use Rattle.parts.specs.Live.{after}
 use Rattle.parts.specs.Frames.{next}
-use Rattle.plain_rules.specs.Round.{priorityOf, opening, granting}
+use Rattle.sent.specs.Round.{priorityOf, opening, granting}
 use Rattle.parts.specs.declared.list.Message.{Message}
 use Rattle.parts.specs.declared.frame.Whom.the-variants.{Nobody}
 use Rattle.parts.specs.declared.frame.TokenFrame.{TokenFrame}

@@ -4,7 +4,7 @@ use mathlib.Core.Path.{_≡_, sym, ap, subst, _∙_}
 use mathlib.Core.Bool.{true, false}
 use Prim.Native.Nat.{ℕ, _+_, _<_, _≤_}
 use Rattle.parts.specs.Frames.{flightIn, fit}
-use Rattle.plain_rules.specs.Round.{informationOf, reply}
+use Rattle.sent.specs.Round.{informationOf, reply}
 use Rattle.station.specs.Stations.{head}
 use Rattle.parts.specs.declared.list.Message.{Message}
 use Rattle.parts.specs.declared.frame.Frame.{Frame}

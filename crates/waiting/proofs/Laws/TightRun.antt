@@ -7,7 +7,7 @@ use Prim.Native.Nat.{ℕ, _+_, _-_, _≤_}
 use native.Mathlib.Omega.{arith}
 use Rattle.parts.specs.Live.{after}
 use Rattle.parts.specs.Frames.{next}
-use Rattle.plain_rules.specs.Round.{priorityOf, opening, carrying, granting, informationOf, reply}
+use Rattle.sent.specs.Round.{priorityOf, opening, carrying, granting, informationOf, reply}
 use Rattle.parts.specs.declared.list.Message.{Message}
 use Rattle.parts.specs.declared.list.Best.{Best}
 use Rattle.parts.specs.declared.frame.Whom.the-variants.{Nobody}

@@ -13,8 +13,8 @@ use Rattle.parts.specs.Messages.{all, lowestFree}
 use Rattle.parts.specs.Live.{after}
 use Rattle.parts.specs.Frames.{flight}
 use Rattle.station.specs.Stations.{stateOf, awaitedOf, made, quiet, answered, moved}
-use Rattle.station.specs.Round.{sight}
-use Rattle.plain_rules.specs.Round.{startRound}
+use Rattle.station.specs.Sight.{sight}
+use Rattle.sent.specs.Round.{startRound}
 use Rattle.station.specs.Start.{sentFirst, started, startRule}
 use Rattle.parts.specs.declared.moves.State.the-variants.{Idle}
 use Rattle.parts.specs.declared.moves.Event.the-variants.{Start}

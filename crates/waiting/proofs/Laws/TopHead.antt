@@ -10,7 +10,7 @@ use borrow.Author.Tests.{eqb-true, eqb-false, not-true}
 use Rattle.parts.specs.Choose.{pick}
 use Rattle.parts.specs.Frames.{flight}
 use Rattle.parts.specs.Messages.{all, flies, fits, noBest, theBest, bestOf}
-use Rattle.plain_rules.specs.Round.{priorityOf}
+use Rattle.sent.specs.Round.{priorityOf}
 use Rattle.station.specs.Stations.{awaitedOf, head}
 use Rattle.wholeness.specs.Whole.{apart, messageGood}
 use Rattle.parts.specs.declared.list.Best.{Best}

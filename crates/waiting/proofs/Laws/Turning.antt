@@ -9,7 +9,7 @@ use borrow.Author.Tests.{leb-false, eqb-true, eqb-false, lt-ltb, le-ltb}
 use Rattle.parts.specs.Choose.{pick}
 use Rattle.parts.specs.Live.{after}
 use Rattle.parts.specs.Frames.{next, fit}
-use Rattle.plain_rules.specs.Round.{priorityOf, passing, returned, bidOf, ownBid, cleared, raised, forward, passOn, onToken, reply}
+use Rattle.sent.specs.Round.{priorityOf, passing, returned, bidOf, ownBid, cleared, raised, forward, passOn, onToken, reply}
 use Rattle.parts.specs.declared.list.Best.{Best}
 use Rattle.parts.specs.declared.list.Message.{Message}
 use Rattle.parts.specs.declared.frame.TokenFrame.{TokenFrame}
@@ -17,8 +17,8 @@ use Rattle.parts.specs.declared.frame.TransmitFrame.{TransmitFrame}
 use Rattle.parts.specs.declared.frame.InformationFrame.{InformationFrame}
 use Rattle.parts.specs.declared.frame.Frame.{Frame}
 use Rattle.parts.specs.declared.frame.Frame.the-variants.{Token, Transmit, Information}
-use Rattle.plain_rules.specs.declared.round.Bid.{Bid}
-use Rattle.plain_rules.specs.declared.round.Sight.{Sight}
+use Rattle.sent.specs.declared.round.Bid.{Bid}
+use Rattle.sent.specs.declared.round.Sight.{Sight}
 use Rattle.parts.proofs.Laws.Choose.{pick-true, pick-false}
 use Rattle.station_theorems.proofs.Laws.Sending.{passes}
 use Rattle.bench_theorems.specs.Quiet.{offset, Phase, token, transmit, information, Offers, no-bid, bid}

@@ -12,7 +12,7 @@ use Rattle.codec.specs.Ring.{RingRead, position, isMember, badAddress, addresse
 use Rattle.codec.proofs.Laws.Bits.{bits-below}
 use Rattle.codec.proofs.Laws.Order.{Apart, NoneHolds, none-holds}
 use Rattle.codec.proofs.Laws.Ring.{read-zero, read-good, head-passed, refused-late, length-addresses, members-filled}
-use Rattle.shell.specs.Calls.{ringOf}
+use Rattle.driver_calls.specs.Calls.{ringOf}
 use Rattle.wire_theorems.specs.Wire.{GoodAddresses}
 
 -- ---- of 48 bits
@@ -26,7 +26,7 @@ snoc-below k h (x ∷ xs) y b c (suc p) = snoc-below k h xs y (λ q. b (suc q)) 
 addresses-wide : (file : List ℕ) (n p : ℕ) → getD (addressesOf file n) p 0 < 2 ^ 48
 unfolding addressesOf
 addresses-wide file zero p = omega arith
-addresses-wide file (suc n) p = snoc-below (2 ^ 48) (omega arith) (addressesOf file n) _ (addresses-wide file n) (bits-below file (16 + n * 48) 48) p
+addresses-wide file (suc n) p = snoc-below (2 ^ 48) (omega arith) (addressesOf file n) _ (addresses-wide file n) (bits-below file _ 48) p
 
 -- ---- what the tests of the addresses say of each
 

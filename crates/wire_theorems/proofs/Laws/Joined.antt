@@ -22,8 +22,8 @@ use Rattle.parts.specs.declared.list.Which.the-variants.{OnChannel}
 use Rattle.parts.specs.declared.request.Request.{Request}
 use Rattle.parts.specs.declared.frame.Whom.{Whom}
 use Rattle.parts.specs.declared.frame.Whom.the-variants.{Nobody, Member}
-use Rattle.plain_rules.specs.Refusals.{takeRefusal}
-use Rattle.plain_rules.proofs.Laws.Queue.{queue-good}
+use Rattle.parts.specs.Refusals.{takeRefusal}
+use Rattle.parts.proofs.Laws.Queue.{queue-good}
 use Rattle.station.specs.Stations.{awaitedOf, answered, moved, unless, alone}
 use Rattle.station.specs.Strike.{Loss, Struck, strike, giveUpTo, giveUpAt, giveUpFlight, messageAt, nothingGone}
 use Rattle.station.specs.Heard.{Stored, acknowledged, landed, acknowledge, strikeOther, strikeHeard, failed, receive, stored, handle, respond, heard, frameRule}
@@ -38,8 +38,8 @@ use Rattle.station_theorems.proofs.Laws.Small.{pick-keeps, pick-keeps-if}
 use Rattle.station_theorems.proofs.Laws.Telling.{pick-either}
 use Rattle.station_theorems.proofs.Theorems.FreePlace.{lowest-free}
 use Rattle.station_theorems.proofs.Theorems.Head.{best-is-first}
-use Rattle.shell.specs.Packets.{frameOf}
-use Rattle.shell.specs.Calls.{heardThen, packetRule}
+use Rattle.driver_buffers.specs.Packets.{frameOf}
+use Rattle.driver_calls.specs.Calls.{heardThen, packetRule}
 
 no-payload : {m : Message} → NoPayload ≡ Of m → ⊥
 no-payload e = let z : _≡_ {A = ℕ} 0 1 = cc in omega arith

@@ -13,8 +13,8 @@ use Rattle.codec.proofs.Laws.Octets.{length-laid}
 use Rattle.parts.specs.Choose.{pick}
 use Rattle.parts.proofs.Laws.Choose.{pick-true}
 use Rattle.records.specs.Layout.{placeLength, storeLength}
-use Rattle.shell.specs.Places.{fitsPlace, inPlace, putPlace}
-use Rattle.shell.proofs.Laws.Places.{fits-sound}
+use Rattle.driver_buffers.specs.Places.{fitsPlace, inPlace, putPlace}
+use Rattle.driver_buffers.proofs.Laws.Places.{fits-sound}
 use Rattle.wire_theorems.proofs.Laws.Stores.{place-fits, place-is}
 
 -- ---- a part of a list

@@ -23,7 +23,7 @@ use Rattle.parts.specs.declared.frame.Frame.{Frame}
 use Rattle.parts.specs.declared.frame.Frame.the-variants.{Token, Transmit, Information}
 use Rattle.station_theorems.specs.Small.{SmallFrame}
 use Rattle.station_theorems.specs.Awaited.{Fit}
-use Rattle.shell.specs.Packets.{addressOf, whomAddress, whomAt, packetOf, frameOf}
+use Rattle.driver_buffers.specs.Packets.{addressOf, whomAddress, whomAt, packetOf, frameOf}
 use Rattle.wire_theorems.specs.Wire.{GoodAddresses, placeless}
 
 module _ (ring : List ℕ) (g : GoodAddresses ring) where

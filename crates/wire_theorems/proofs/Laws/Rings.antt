@@ -8,10 +8,10 @@ use Rattle.codec.specs.Ring.{readRing}
 use Rattle.packet_codec.specs.Packet.{kept}
 use Rattle.station.specs.declared.station.Answer.{Answer}
 use Rattle.records.specs.Record.{readRecord}
-use Rattle.shell.specs.Calls.{membersOf, ringOf, ringIn, recordWith, startAnswer, frameAnswer, timerAnswer, queueAnswer, takeAnswer}
-use Rattle.shell_theorems.proofs.Theorems.Held.{held-sure, made-reads, anew-reads, start-sure, frame-sure, timer-sure, queue-sure, take-sure}
-use Rattle.shell_theorems.specs.Held.{Keeps}
-use Rattle.shell_theorems.specs.Held.{Held, by-make, by-start, by-frame, by-timer, by-queue, by-take, Sure}
+use Rattle.driver_calls.specs.Calls.{membersOf, ringOf, ringIn, recordWith, startAnswer, frameAnswer, timerAnswer, queueAnswer, takeAnswer}
+use Rattle.driver_theorems.proofs.Theorems.Held.{held-sure, made-reads, anew-reads, start-sure, frame-sure, timer-sure, queue-sure, take-sure}
+use Rattle.driver_theorems.specs.Held.{Keeps}
+use Rattle.driver_theorems.specs.Held.{Held, by-make, by-start, by-frame, by-timer, by-queue, by-take, Sure}
 use Rattle.wire_theorems.specs.Wire.{GoodAddresses, madeOf}
 use Rattle.wire_theorems.proofs.Laws.Addresses.{good-addresses}
 

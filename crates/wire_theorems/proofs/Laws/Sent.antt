@@ -18,7 +18,7 @@ use Rattle.parts.specs.declared.frame.Frame.{Frame}
 use Rattle.parts.specs.declared.frame.Frame.the-variants.{Token}
 use Rattle.parts.specs.declared.frame.Dispatch.{Dispatch}
 use Rattle.parts.specs.declared.frame.Dispatch.the-variants.{Nothing, Sent}
-use Rattle.plain_rules.specs.Round.{priorityOf, opening, startRound}
+use Rattle.sent.specs.Round.{priorityOf, opening, startRound}
 use Rattle.station.specs.Stations.{awaitedOf, head, answered, moved, unless, alone}
 use Rattle.station.specs.Start.{started, startRule}
 use Rattle.station.specs.Heard.{handle, respond, heard, frameRule}
@@ -33,11 +33,11 @@ use Rattle.station_theorems.specs.Small.{SmallFrame, SmallDispatch}
 use Rattle.station_theorems.specs.Awaited.{Proper}
 use Rattle.station_theorems.specs.GoodList.{GoodList}
 use Rattle.station_theorems.proofs.Theorems.Whole.{whole-is}
-use Rattle.shell.specs.Packets.{frameOf}
-use Rattle.shell.specs.Calls.{ringIn, heardThen, packetRule}
-use Rattle.shell_theorems.proofs.Laws.MadeRecords.{members-count}
-use Rattle.shell_theorems.specs.Held.{Keeps}
-use Rattle.shell_theorems.specs.Held.{Sure}
+use Rattle.driver_buffers.specs.Packets.{frameOf}
+use Rattle.driver_calls.specs.Calls.{ringIn, heardThen, packetRule}
+use Rattle.driver_theorems.proofs.Laws.MadeRecords.{members-count}
+use Rattle.driver_theorems.specs.Held.{Keeps}
+use Rattle.driver_theorems.specs.Held.{Sure}
 use Rattle.wire_theorems.specs.Wire.{Outgoing}
 
 -- ---- each frame that an answer sends has a property

@@ -16,10 +16,10 @@ use Rattle.station.specs.declared.station.Station.{Station}
 use Rattle.station.specs.declared.station.Answer.{Answer}
 use Rattle.records.specs.Layout.{placeLength, storeLength}
 use Rattle.records.specs.Record.{readRecord}
-use Rattle.shell.specs.Places.{fitsPlace, inPlace, carriedIn}
-use Rattle.shell.specs.Packets.{packetOf}
-use Rattle.shell.specs.Calls.{callNumber, badBuffers}
-use Rattle.shell.proofs.Laws.Calls.{good-buffers}
+use Rattle.driver_buffers.specs.Places.{fitsPlace, inPlace, carriedIn}
+use Rattle.driver_buffers.specs.Packets.{packetOf}
+use Rattle.driver_calls.specs.Calls.{callNumber, badBuffers}
+use Rattle.driver_calls.proofs.Laws.Calls.{good-buffers}
 use Rattle.wire_theorems.specs.Wire.{Outgoing}
 
 pub place-fits : (store place n : ℕ) → store ≡ storeLength → place < 32 → n ≤ placeLength → fitsPlace store place n ≡ true

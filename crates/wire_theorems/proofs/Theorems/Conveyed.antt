@@ -28,12 +28,12 @@ use Rattle.station.specs.declared.station.Station.{Station}
 use Rattle.station.specs.declared.station.Answer.{Answer}
 use Rattle.station_theorems.proofs.Theorems.Awaited.{is-fit}
 use Rattle.records.specs.Layout.{storeLength}
-use Rattle.shell.specs.Packets.{addressOf, packetOf, sentOctets, sentSize, sentTo}
-use Rattle.shell.specs.Places.{carriedIn, informationOf}
-use Rattle.shell.specs.Calls.{ringIn, stationIn, Sending, startAnswer, timerAnswer, frameAnswer, heardThen, packetRule}
-use Rattle.shell_theorems.proofs.Theorems.Held.{held-sure, anew-reads, start-sure, frame-sure, timer-sure}
-use Rattle.shell_theorems.specs.Held.{Keeps}
-use Rattle.shell_theorems.specs.Held.{Held}
+use Rattle.driver_buffers.specs.Packets.{addressOf, packetOf, sentOctets, sentSize, sentTo}
+use Rattle.driver_buffers.specs.Places.{carriedIn, informationOf}
+use Rattle.driver_calls.specs.Calls.{ringIn, stationIn, Sending, startAnswer, timerAnswer, frameAnswer, heardThen, packetRule}
+use Rattle.driver_theorems.proofs.Theorems.Held.{held-sure, anew-reads, start-sure, frame-sure, timer-sure}
+use Rattle.driver_theorems.specs.Held.{Keeps}
+use Rattle.driver_theorems.specs.Held.{Held}
 use Rattle.wire_theorems.specs.Wire.{GoodAddresses, OnWire, Conveyed, Sends, on-start, on-frame, on-timer, placeless, madeOf}
 use Rattle.wire_theorems.proofs.Laws.Rings.{held-addresses, same-ring}
 use Rattle.wire_theorems.proofs.Laws.Sent.{AwaitsSent, outgoing, start-awaits, packet-awaits, timer-awaits, start-sends-token}

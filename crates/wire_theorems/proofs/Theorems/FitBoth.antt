@@ -11,7 +11,7 @@ use Rattle.parts.specs.Frames.{fit}
 use Rattle.parts.specs.declared.frame.Frame.{Frame}
 use Rattle.station_theorems.specs.Small.{SmallFrame}
 use Rattle.station_theorems.proofs.Theorems.Awaited.{fit-is}
-use Rattle.shell.specs.Packets.{packetOf}
+use Rattle.driver_buffers.specs.Packets.{packetOf}
 use Rattle.wire_theorems.specs.Wire.{GoodAddresses, OnWire}
 use Rattle.wire_theorems.proofs.Laws.Packets.{writable, frame-again, packet-typed, octets-sized}
 

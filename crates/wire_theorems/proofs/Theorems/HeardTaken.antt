@@ -21,11 +21,11 @@ use Rattle.station.specs.declared.station.Answer.{Answer}
 use Rattle.station_theorems.proofs.Laws.Members.{standing}
 use Rattle.station_theorems.proofs.Theorems.Whole.{whole-is}
 use Rattle.records.specs.Layout.{placeLength, storeLength, receivePlaces}
-use Rattle.shell.specs.Places.{fitsPlace, inPlace, putPlace, received, taken}
-use Rattle.shell.specs.Telling.{takenTold}
-use Rattle.shell.specs.Calls.{ringIn, stationIn, badStore, heardInformation, storeHeard, takenInto, frameAnswer, takeAnswer, Hearing, Taking}
-use Rattle.shell_theorems.proofs.Theorems.Held.{held-sure, anew-reads, frame-sure}
-use Rattle.shell_theorems.specs.Held.{Held, by-frame}
+use Rattle.driver_buffers.specs.Places.{fitsPlace, inPlace, putPlace, received, taken}
+use Rattle.driver_buffers.specs.Telling.{takenTold}
+use Rattle.driver_calls.specs.Calls.{ringIn, stationIn, badStore, heardInformation, storeHeard, takenInto, frameAnswer, takeAnswer, Hearing, Taking}
+use Rattle.driver_theorems.proofs.Theorems.Held.{held-sure, anew-reads, frame-sure}
+use Rattle.driver_theorems.specs.Held.{Held, by-frame}
 use Rattle.wire_theorems.specs.Store.{While, Received, receivedPayload}
 use Rattle.wire_theorems.proofs.Laws.Stores.{buffer-good, store-sized, place-fits, place-sized}
 use Rattle.wire_theorems.proofs.Laws.Laid.{put-there}

@@ -18,10 +18,10 @@ use Rattle.station.specs.declared.station.Answer.{Answer}
 use Rattle.station_theorems.proofs.Theorems.Whole.{whole-is}
 use Rattle.station_theorems.specs.Whole.{Whole}
 use Rattle.records.specs.Layout.{placeLength, storeLength, receivePlaces}
-use Rattle.shell.specs.Places.{putPlace, queued, received}
-use Rattle.shell.specs.Calls.{ringIn, stationIn, badStore, heardInformation, storeHeard, queueAnswer, frameAnswer, Hearing, Queueing}
-use Rattle.shell_theorems.proofs.Theorems.Held.{held-sure}
-use Rattle.shell_theorems.specs.Held.{Held, Sure, by-start as held-start, by-frame as held-frame, by-timer as held-timer, by-queue as held-queue, by-take as held-take}
+use Rattle.driver_buffers.specs.Places.{putPlace, queued, received}
+use Rattle.driver_calls.specs.Calls.{ringIn, stationIn, badStore, heardInformation, storeHeard, queueAnswer, frameAnswer, Hearing, Queueing}
+use Rattle.driver_theorems.proofs.Theorems.Held.{held-sure}
+use Rattle.driver_theorems.specs.Held.{Held, Sure, by-start as held-start, by-frame as held-frame, by-timer as held-timer, by-queue as held-queue, by-take as held-take}
 use Rattle.wire_theorems.specs.Store.{Call, by-start, by-frame, by-timer, by-queue, by-take, While, no-call, then-call, ToSend, Received, sendPayload, receivedPayload, PayloadsStay}
 use Rattle.wire_theorems.proofs.Laws.Stores.{buffer-good, store-sized}
 use Rattle.wire_theorems.proofs.Laws.Laid.{put-elsewhere}

@@ -9,7 +9,7 @@ use borrow.Author.Tests.{eqb-true, eqb-false, not-false}
 use lib.Dec.{eqb}
 use lib.ListN.{length, take, getD}
 use Rattle.packet_codec.specs.Packet.{informationPart}
-use Rattle.shell.specs.Packets.{packetOf}
+use Rattle.driver_buffers.specs.Packets.{packetOf}
 use Rattle.parts.specs.Messages.{all, bestOf, noBest, theBest, messageFor}
 use Rattle.parts.specs.Moves.{moveOf}
 use Rattle.parts.specs.declared.moves.State.{State}
@@ -33,10 +33,10 @@ use Rattle.station_theorems.proofs.Laws.Members.{standing, stood}
 use Rattle.station_theorems.proofs.Laws.Small.{pick-keeps}
 use Rattle.station_theorems.proofs.Laws.Telling.{pick-either}
 use Rattle.records.specs.Layout.{storeLength}
-use Rattle.shell.specs.Places.{fitsPlace, inPlace, putPlace, carriedIn, queued}
-use Rattle.shell.specs.Calls.{stationIn, badStore, queueAnswer, Queueing, ringIn}
-use Rattle.shell_theorems.proofs.Theorems.Held.{held-sure, anew-reads, queue-sure}
-use Rattle.shell_theorems.specs.Held.{Held, by-queue}
+use Rattle.driver_buffers.specs.Places.{fitsPlace, inPlace, putPlace, carriedIn, queued}
+use Rattle.driver_calls.specs.Calls.{stationIn, badStore, queueAnswer, Queueing, ringIn}
+use Rattle.driver_theorems.proofs.Theorems.Held.{held-sure, anew-reads, queue-sure}
+use Rattle.driver_theorems.specs.Held.{Held, by-queue}
 use Rattle.wire_theorems.specs.Wire.{Sends, madeOf}
 use Rattle.wire_theorems.specs.Store.{While, ToSend, sendPayload}
 use Rattle.wire_theorems.proofs.Laws.Stores.{buffer-good, own-number, place-fits}

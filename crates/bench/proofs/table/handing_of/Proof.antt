@@ -4,8 +4,8 @@ use Rattle.bench.proofs.Laws.Stepping.{handing-sent, handing-none}
 use Rattle.bench.proofs.table.handing_of.Statement.{statement}
 use Rattle.bench.proofs.table.handing_of.Tie as tie
 
-seats-of-requires : tie.Need-seats-of-requires
-seats-of-requires c κs = search needs
+seats-requires : tie.Need-seats-requires
+seats-requires c κs = search needs
 
 enum-known-d : tie.Need-enum-known-d
 enum-known-d c = search needs
@@ -19,10 +19,10 @@ enum-told c = search needs
 returns : tie.Need-returns
 returns c =
     let a = c .before .before .before .before .before .before .args in
-    handing-sent (a .g) _ (c .before .before .before .before .seats-of .ensures) _ _ _ (c .before .before .d .given .1) (c .is-quiet .ensures)
+    handing-sent (a .g) _ (c .before .before .before .before .seats .ensures) _ _ _ (c .before .before .d .given .1) (c .is-quiet .ensures)
 
 returns-2 : tie.Need-returns-2
-returns-2 c = handing-none (c .before .before .before .before .args .g) _ (c .before .before .seats-of .ensures) (c .enum-told .given .1)
+returns-2 c = handing-none (c .before .before .before .before .args .g) _ (c .before .before .seats .ensures) (c .enum-told .given .1)
 
 pub handing-of-spec : {M : Type 1} → statement M
-handing-of-spec = tie.close (tie.spec seats-of-requires enum-known-d is-quiet-requires enum-told returns returns-2)
+handing-of-spec = tie.close (tie.spec seats-requires enum-known-d is-quiet-requires enum-told returns returns-2)

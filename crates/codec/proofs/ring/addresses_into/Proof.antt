@@ -26,6 +26,9 @@ mul-address-from c = omega arith
 add-address-from : tie.Need-add-address-from Inv-loop μ-loop
 add-address-from c = omega arith
 
+mul-address-from-2 : tie.Need-mul-address-from-2 Inv-loop μ-loop
+mul-address-from-2 c = omega arith
+
 address-from-requires : tie.Need-address-from-requires Inv-loop μ-loop
 address-from-requires c κs = omega arith
 
@@ -69,6 +72,7 @@ addresses-into-spec =
     loop-holds
     mul-address-from
     add-address-from
+    mul-address-from-2
     address-from-requires
     mul-addresses
     slice-write-addresses

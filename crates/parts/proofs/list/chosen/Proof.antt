@@ -29,8 +29,8 @@ mul-m c = omega (arith, used-most (c .before .before .before .args .t1))
 element-copy-out-m : tie.Need-element-copy-out-m Inv-loop μ-loop
 element-copy-out-m c = omega (arith, used-most (c .before .before .before .args .t1))
 
-is-among-requires : tie.Need-is-among-requires Inv-loop μ-loop
-is-among-requires c κs = search needs
+among-requires : tie.Need-among-requires Inv-loop μ-loop
+among-requires c κs = search needs
 
 slot-requires : tie.Need-slot-requires Inv-loop μ-loop
 slot-requires c κs = search needs
@@ -59,8 +59,8 @@ loop-again c =
     let room : length (take (l .i) (all (a .t1))) < 16 = omega (arith, length-take (l .i) (all (a .t1)), used-most (a .t1)) in (
       omega arith,
       l .inv .1,
-      omega (arith, c .grown .ensures, grown-most (c .before .before .is-among .result) (l .k)),
-      chosen-turn (among (a .w) (a .fitting)) _ _ _ _ _ _ _ _ room (all-to (a .t1) h (l .i) in-list) (l .inv .3) (c .before .before .is-among .ensures) (c .before .slot .ensures) (c .grown .ensures),
+      omega (arith, c .grown .ensures, grown-most (c .before .before .among .result) (l .k)),
+      chosen-turn (among (a .w) (a .fitting)) _ _ _ _ _ _ _ _ room (all-to (a .t1) h (l .i) in-list) (l .inv .3) (c .before .before .among .ensures) (c .before .slot .ensures) (c .grown .ensures),
     )
 
 returns : tie.Need-returns Inv-loop μ-loop
@@ -82,7 +82,7 @@ chosen-spec =
     loop-holds
     mul-m
     element-copy-out-m
-    is-among-requires
+    among-requires
     slot-requires
     mul-items
     array-set-from-items

@@ -8,20 +8,20 @@ use Rattle.parts.proofs.list.suits.Tie as tie
 enum-known-w : tie.Need-enum-known-w
 enum-known-w c = search needs
 
-in-flight-requires : tie.Need-in-flight-requires
-in-flight-requires c κs = search needs
+flies-requires : tie.Need-flies-requires
+flies-requires c κs = search needs
 
 enum-known-w-2 : tie.Need-enum-known-w-2
 enum-known-w-2 c = search needs
 
-in-flight-requires-2 : tie.Need-in-flight-requires-2
-in-flight-requires-2 c κs = search needs
+flies-requires-2 : tie.Need-flies-requires-2
+flies-requires-2 c κs = search needs
 
 enum-known-w-3 : tie.Need-enum-known-w-3
 enum-known-w-3 c = search needs
 
-in-flight-requires-3 : tie.Need-in-flight-requires-3
-in-flight-requires-3 c κs = search needs
+flies-requires-3 : tie.Need-flies-requires-3
+flies-requires-3 c κs = search needs
 
 enum-known-w-4 : tie.Need-enum-known-w-4
 enum-known-w-4 c = search needs
@@ -34,23 +34,23 @@ cast-result c = search needs
 
 returns : tie.Need-returns
 unfolding fits
-returns c = rw (c .before .before .w .given .1, c .in-flight .ensures)
+returns c = rw (c .before .before .w .given .1, c .flies .ensures)
 
 returns-2 : tie.Need-returns-2
 unfolding fits
-returns-2 c = rw (c .before .before .before .w2 .given .1, sym (c .before .in-flight2 .ensures) ∙ c .if1 .taken)
+returns-2 c = rw (c .before .before .before .w2 .given .1, sym (c .before .flies2 .ensures) ∙ c .if1 .taken)
 
 returns-3 : tie.Need-returns-3
 unfolding fits
-returns-3 c = rw (c .before .before .before .before .w2 .given .1, sym (c .before .before .in-flight2 .ensures) ∙ c .before .if1 .left)
+returns-3 c = rw (c .before .before .before .before .w2 .given .1, sym (c .before .before .flies2 .ensures) ∙ c .before .if1 .left)
 
 returns-4 : tie.Need-returns-4
 unfolding fits
-returns-4 c = rw (c .before .before .before .w3 .given .1, sym (c .before .in-flight3 .ensures) ∙ c .if2 .taken)
+returns-4 c = rw (c .before .before .before .w3 .given .1, sym (c .before .flies3 .ensures) ∙ c .if2 .taken)
 
 returns-5 : tie.Need-returns-5
 unfolding fits
-returns-5 c = rw (c .before .before .before .before .w3 .given .1, sym (c .before .before .in-flight3 .ensures) ∙ c .before .if2 .left)
+returns-5 c = rw (c .before .before .before .before .w3 .given .1, sym (c .before .before .flies3 .ensures) ∙ c .before .if2 .left)
 
 returns-6 : tie.Need-returns-6
 unfolding fits
@@ -65,11 +65,11 @@ suits-spec =
     tie.close
     (tie.spec
     enum-known-w
-    in-flight-requires
+    flies-requires
     enum-known-w-2
-    in-flight-requires-2
+    flies-requires-2
     enum-known-w-3
-    in-flight-requires-3
+    flies-requires-3
     enum-known-w-4
     enum-known-w-5
     cast-result

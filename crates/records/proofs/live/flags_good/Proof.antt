@@ -8,11 +8,11 @@ use Rattle.records.proofs.Laws.Flags.{flags-greatest}
 use Rattle.records.proofs.live.flags_good.Statement.{statement}
 use Rattle.records.proofs.live.flags_good.Tie as tie
 
-greatest-flag-requires : tie.Need-greatest-flag-requires
-greatest-flag-requires c κs = search needs
+greatest-requires : tie.Need-greatest-requires
+greatest-requires c κs = search needs
 
 returns : tie.Need-returns
-returns c = ap (λ (g : ℕ). ltb g 2) (c .greatest-flag .ensures) ∙ sym (flags-greatest (c .before .before .args .s .now) liveAt 64)
+returns c = ap (λ (g : ℕ). ltb g 2) (c .greatest .ensures) ∙ sym (flags-greatest (c .before .before .args .s .now) liveAt 64)
 
 pub flags-good-spec : {M : Type 1} → statement M
-flags-good-spec = tie.close (tie.spec greatest-flag-requires returns)
+flags-good-spec = tie.close (tie.spec greatest-requires returns)

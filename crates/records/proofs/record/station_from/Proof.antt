@@ -19,23 +19,17 @@ turn-at-requires c κs = search needs
 counts-at-requires : tie.Need-counts-at-requires
 counts-at-requires c κs = search needs
 
-cast-t8 : tie.Need-cast-t8
-cast-t8 c = search needs
-
-bits-requires : tie.Need-bits-requires
-bits-requires c κs = search needs
-
-cast-t10 : tie.Need-cast-t10
-cast-t10 c = search needs
+cast-t9 : tie.Need-cast-t9
+cast-t9 c = search needs
 
 get-requires : tie.Need-get-requires
 get-requires c κs = search needs
 
-cast-t12 : tie.Need-cast-t12
-cast-t12 c = search needs
+cast-t11 : tie.Need-cast-t11
+cast-t11 c = search needs
 
 returns : tie.Need-returns
-returns c = rw (c .before .before .before .before .before .before .live-from .ensures, c .before .before .before .before .before .messages-at .ensures, c .before .before .before .before .messages-at2 .ensures, c .before .before .before .turn-at .ensures, c .before .before .counts-at .ensures, c .before .bits .ensures .0, c .get .ensures .0)
+returns c = rw (c .before .before .before .before .before .live-from .ensures, c .before .before .before .before .messages-at .ensures, c .before .before .before .messages-at2 .ensures, c .before .before .turn-at .ensures, c .before .counts-at .ensures, c .get .ensures .0)
 
 pub station-from-spec : {M : Type 1} → statement M
 station-from-spec =
@@ -46,9 +40,7 @@ station-from-spec =
     messages-at-requires-2
     turn-at-requires
     counts-at-requires
-    cast-t8
-    bits-requires
-    cast-t10
+    cast-t9
     get-requires
-    cast-t12
+    cast-t11
     returns)

@@ -16,27 +16,27 @@ returns : tie.Need-returns
 unfolding awaitedGood allOf pick
 returns c = simp (sym (c .before .is-waiting .ensures) ∙ not-true _ (c .if1 .taken))
 
-is-fit-requires : tie.Need-is-fit-requires
-is-fit-requires c κs = search needs
+fit-requires : tie.Need-fit-requires
+fit-requires c κs = search needs
 
 returns-2 : tie.Need-returns-2
 unfolding awaitedGood allOf pick
-returns-2 c = simp (sym (c .before .before .before .is-waiting .ensures) ∙ not-false _ (c .before .before .if1 .left), sym (c .before .is-fit .ensures) ∙ not-true _ (c .if2 .taken))
+returns-2 c = simp (sym (c .before .before .before .is-waiting .ensures) ∙ not-false _ (c .before .before .if1 .left), sym (c .before .fit .ensures) ∙ not-true _ (c .if2 .taken))
 
 returns-3 : tie.Need-returns-3
 unfolding awaitedGood allOf pick
-returns-3 c = simp (sym (c .before .before .before .before .is-waiting .ensures) ∙ not-false _ (c .before .before .before .if1 .left), sym (c .before .before .is-fit .ensures) ∙ not-false _ (c .before .if2 .left), le-ltb _ _ (c .if3 .taken))
+returns-3 c = simp (sym (c .before .before .before .before .is-waiting .ensures) ∙ not-false _ (c .before .before .before .if1 .left), sym (c .before .before .fit .ensures) ∙ not-false _ (c .before .if2 .left), le-ltb _ _ (c .if3 .taken))
 
 returns-4 : tie.Need-returns-4
 unfolding awaitedGood allOf pick
-returns-4 c = simp (sym (c .before .before .before .before .before .is-waiting .ensures) ∙ not-false _ (c .before .before .before .before .if1 .left), sym (c .before .before .before .is-fit .ensures) ∙ not-false _ (c .before .before .if2 .left), lt-ltb _ _ (c .before .if3 .left), eq-eqb _ _ (c .if4 .taken))
+returns-4 c = simp (sym (c .before .before .before .before .before .is-waiting .ensures) ∙ not-false _ (c .before .before .before .before .if1 .left), sym (c .before .before .before .fit .ensures) ∙ not-false _ (c .before .before .if2 .left), lt-ltb _ _ (c .before .if3 .left), eq-eqb _ _ (c .if4 .taken))
 
-is-carried-requires : tie.Need-is-carried-requires
-is-carried-requires c κs = search needs
+carried-requires : tie.Need-carried-requires
+carried-requires c κs = search needs
 
 returns-5 : tie.Need-returns-5
 unfolding awaitedGood allOf pick
-returns-5 c = simp (sym (c .before .before .before .before .before .before .is-waiting .ensures) ∙ not-false _ (c .before .before .before .before .before .if1 .left), sym (c .before .before .before .before .is-fit .ensures) ∙ not-false _ (c .before .before .before .if2 .left), lt-ltb _ _ (c .before .before .if3 .left), ne-eqb _ _ (c .before .if4 .left)) (c .is-carried .ensures ∙ sym (test-last _))
+returns-5 c = simp (sym (c .before .before .before .before .before .before .is-waiting .ensures) ∙ not-false _ (c .before .before .before .before .before .if1 .left), sym (c .before .before .before .before .fit .ensures) ∙ not-false _ (c .before .before .before .if2 .left), lt-ltb _ _ (c .before .before .if3 .left), ne-eqb _ _ (c .before .if4 .left)) (c .carried .ensures ∙ sym (test-last _))
 
 pub frame-good-spec : {M : Type 1} → statement M
 frame-good-spec =
@@ -44,9 +44,9 @@ frame-good-spec =
     (tie.spec
     is-waiting-requires
     returns
-    is-fit-requires
+    fit-requires
     returns-2
     returns-3
     returns-4
-    is-carried-requires
+    carried-requires
     returns-5)

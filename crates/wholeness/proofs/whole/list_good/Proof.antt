@@ -18,14 +18,14 @@ returns-2 : tie.Need-returns-2
 unfolding listGood
 returns-2 c = sym (test-passes _ _ (le-leb _ _ (c .before .before .if1 .left)) ∙ test-stops _ _ (sym (c .before .messages-good .ensures) ∙ not-true _ (c .if2 .taken)))
 
-places-apart-requires : tie.Need-places-apart-requires
-places-apart-requires c κs = search needs
+apart-requires : tie.Need-apart-requires
+apart-requires c κs = search needs
 
 returns-3 : tie.Need-returns-3
 unfolding listGood
-returns-3 c = c .places-apart .ensures ∙ sym (test-passes _ _ (le-leb _ _ (c .before .before .before .if1 .left)) ∙ test-passes _ _ (sym (c .before .before .messages-good .ensures) ∙ not-false _ (c .before .if2 .left)) ∙ test-known _ _ (c .before .before .before .before .before .pre))
+returns-3 c = c .apart .ensures ∙ sym (test-passes _ _ (le-leb _ _ (c .before .before .before .if1 .left)) ∙ test-passes _ _ (sym (c .before .before .messages-good .ensures) ∙ not-false _ (c .before .if2 .left)) ∙ test-known _ _ (c .before .before .before .before .before .pre))
 
 pub list-good-spec : {M : Type 1} → statement M
 list-good-spec =
     tie.close
-    (tie.spec returns messages-good-requires returns-2 places-apart-requires returns-3)
+    (tie.spec returns messages-good-requires returns-2 apart-requires returns-3)

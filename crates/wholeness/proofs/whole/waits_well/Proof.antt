@@ -5,23 +5,23 @@ use borrow.Author.Needs.{needs}
 use Rattle.wholeness.proofs.whole.waits_well.Statement.{statement}
 use Rattle.wholeness.proofs.whole.waits_well.Tie as tie
 
-in-flight-requires : tie.Need-in-flight-requires
-in-flight-requires c κs = search needs
+flies-requires : tie.Need-flies-requires
+flies-requires c κs = search needs
 
 returns : tie.Need-returns
 unfolding waitsWell
-returns c = rw (sym (c .before .in-flight .ensures) ∙ c .if1 .taken)
+returns c = rw (sym (c .before .flies .ensures) ∙ c .if1 .taken)
 
-cast-is-live : tie.Need-cast-is-live
-cast-is-live c = search needs
+cast-live-at : tie.Need-cast-live-at
+cast-live-at c = search needs
 
-is-live-requires : tie.Need-is-live-requires
-is-live-requires c κs = search needs
+live-at-requires : tie.Need-live-at-requires
+live-at-requires c κs = search needs
 
 returns-2 : tie.Need-returns-2
 unfolding waitsWell
-returns-2 c = c .is-live .ensures ∙ rw (sym (c .before .before .before .in-flight .ensures) ∙ c .before .before .if1 .left)
+returns-2 c = c .live-at .ensures ∙ rw (sym (c .before .before .before .flies .ensures) ∙ c .before .before .if1 .left)
 
 pub waits-well-spec : {M : Type 1} → statement M
 waits-well-spec =
-    tie.close (tie.spec in-flight-requires returns cast-is-live is-live-requires returns-2)
+    tie.close (tie.spec flies-requires returns cast-live-at live-at-requires returns-2)

@@ -19,11 +19,11 @@ abbrev μ-loop : tie.MeasureT-loop
 new-requires : tie.Need-new-requires Inv-loop μ-loop
 new-requires c κs = search needs
 
-seats-of-requires : tie.Need-seats-of-requires Inv-loop μ-loop
-seats-of-requires c κs = search needs
+seats-requires : tie.Need-seats-requires Inv-loop μ-loop
+seats-requires c κs = search needs
 
 loop-holds : tie.Need-loop-holds Inv-loop μ-loop
-loop-holds c = (omega (arith, seats-most (c .before .before .args .n), c .seats-of .ensures), refl, start-begins (c .before .before .args .n) (c .before .before .args .limit) (c .seats-of .result) (c .before .new .result) (c .seats-of .ensures) (c .before .new .ensures))
+loop-holds c = (omega (arith, seats-most (c .before .before .args .n), c .seats .ensures), refl, start-begins (c .before .before .args .n) (c .before .before .args .limit) (c .seats .result) (c .before .new .result) (c .seats .ensures) (c .before .new .ensures))
 
 sub-p : tie.Need-sub-p Inv-loop μ-loop
 sub-p c = omega arith
@@ -69,7 +69,7 @@ new-spec =
     Inv-loop
     μ-loop
     new-requires
-    seats-of-requires
+    seats-requires
     loop-holds
     sub-p
     cast-own

@@ -13,38 +13,38 @@ array-share-prefix-octets c =
     let l : length (c .before .before .args .self .octets) ≡ 40 = search needs in
     omega (arith, c .if1 .taken)
 
-slice-aggregate-read-line : tie.Need-slice-aggregate-read-line
-slice-aggregate-read-line c =
+slice-aggregate-line-of : tie.Need-slice-aggregate-line-of
+slice-aggregate-line-of c =
     let h = c .before .before .before .args .self in
     let l : length (c .before .before .before .args .self .octets) ≡ 40 = search needs in
     sym (length-take-le (h .len) (h .octets) (omega (arith, c .before .if1 .taken)))
 
-read-line-requires : tie.Need-read-line-requires
-read-line-requires c κs = search needs
+line-of-requires : tie.Need-line-of-requires
+line-of-requires c κs = search needs
 
 returns : tie.Need-returns
 returns c = search needs
 
-slice-aggregate-read-line-2 : tie.Need-slice-aggregate-read-line-2
-slice-aggregate-read-line-2 c = search needs
+slice-aggregate-line-of-2 : tie.Need-slice-aggregate-line-of-2
+slice-aggregate-line-of-2 c = search needs
 
-read-line-requires-2 : tie.Need-read-line-requires-2
-read-line-requires-2 c κs = search needs
+line-of-requires-2 : tie.Need-line-of-requires-2
+line-of-requires-2 c κs = search needs
 
 returns-2 : tie.Need-returns-2
 returns-2 c =
     let h = c .before .before .before .before .args .self in
     let l : length (c .before .before .before .before .args .self .octets) ≡ 40 = search needs in
-    c .read-line2 .ensures ∙ ap lineOf (sym (take-all (h .len) (h .octets) (omega (arith, c .before .before .if1 .left))))
+    c .line-of2 .ensures ∙ ap lineOf (sym (take-all (h .len) (h .octets) (omega (arith, c .before .before .if1 .left))))
 
 pub line-spec : {M : Type 1} → statement M
 line-spec =
     tie.close
     (tie.spec
     array-share-prefix-octets
-    slice-aggregate-read-line
-    read-line-requires
+    slice-aggregate-line-of
+    line-of-requires
     returns
-    slice-aggregate-read-line-2
-    read-line-requires-2
+    slice-aggregate-line-of-2
+    line-of-requires-2
     returns-2)

@@ -17,8 +17,8 @@ returns c =
     let a = c .before .before .before .before .args in
     obey-short (a .self) (a .l) (a .out .now) (a .at) (omega (arith, c .before .room-from .ensures, c .if1 .taken))
 
-is-refused-requires : tie.Need-is-refused-requires
-is-refused-requires c κs = search needs
+refuses-requires : tie.Need-refuses-requires
+refuses-requires c κs = search needs
 
 turn-down-requires : tie.Need-turn-down-requires
 turn-down-requires c κs = search needs
@@ -31,7 +31,7 @@ returns-2 c =
     let a = c .before .before .before .before .before .before .before .before .before .before .args in
     let t = c .before .before .turn-down in
     obey-refused (a .self) (a .l) (a .out .now) (a .at) (omega (arith, c .before .before .before .before .before .before .before .room-from .ensures, c .before .before .before .before .before .before .if1 .left)) (t .result) _
-    (sym (c .before .before .before .before .before .is-refused .ensures) ∙ c .before .before .before .before .if2 .taken) (t .ensures .0) (t .ensures .1)
+    (sym (c .before .before .before .before .before .refuses .ensures) ∙ c .before .before .before .before .if2 .taken) (t .ensures .0) (t .ensures .1)
 
 enum-known-l : tie.Need-enum-known-l
 enum-known-l c = search needs
@@ -39,7 +39,7 @@ enum-known-l c = search needs
 open-requires : tie.Need-open-requires
 open-requires c κs =
     let a = c .before .before .before .before .before .before .before .before .before .before .args in (
-      taken-few (a .self .begun) (a .l) _ (c .before .before .l .given .1) (sym (c .before .before .before .before .before .is-refused .ensures) ∙ c .before .before .before .before .if2 .left),
+      taken-few (a .self .begun) (a .l) _ (c .before .before .l .given .1) (sym (c .before .before .before .before .before .refuses .ensures) ∙ c .before .before .before .before .if2 .left),
       omega (arith, c .before .before .before .before .before .before .before .room-from .ensures, c .before .before .before .before .before .before .if1 .left),
     )
 
@@ -68,7 +68,7 @@ returns-3 : tie.Need-returns-3
 returns-3 c =
     let a = c .before .before .before .before .before .before .before .before .before .before .before .before .before .args in
     obey-ring (a .self) (a .l) (a .out .now) (a .at) (omega (arith, c .before .before .before .before .before .before .before .before .before .before .room-from .ensures, c .before .before .before .before .before .before .before .before .before .if1 .left)) (c .before .before .«open» .result) _
-    (sym (c .before .before .before .before .before .before .before .before .is-refused .ensures) ∙ c .before .before .before .before .before .before .before .if2 .left) _ (c .before .before .before .before .before .l .given .1) (c .before .before .«open» .ensures .0) (c .before .before .«open» .ensures .1)
+    (sym (c .before .before .before .before .before .before .before .before .refuses .ensures) ∙ c .before .before .before .before .before .before .before .if2 .left) _ (c .before .before .before .before .before .l .given .1) (c .before .before .«open» .ensures .0) (c .before .before .«open» .ensures .1)
 
 same-length-4 : tie.Need-same-length-4
 same-length-4 c = search needs
@@ -77,7 +77,7 @@ returns-4 : tie.Need-returns-4
 returns-4 c =
     let a = c .before .before .before .before .before .before .before .before .before .before .before .before .before .args in
     obey-queue (a .self) (a .l) (a .out .now) (a .at) (omega (arith, c .before .before .before .before .before .before .before .before .before .before .room-from .ensures, c .before .before .before .before .before .before .before .before .before .if1 .left)) (c .before .before .send .result) _
-    (sym (c .before .before .before .before .before .before .before .before .is-refused .ensures) ∙ c .before .before .before .before .before .before .before .if2 .left) _ _ (c .before .before .before .before .before .l2 .given .1) (c .before .before .send .ensures .0) (c .before .before .send .ensures .1)
+    (sym (c .before .before .before .before .before .before .before .before .refuses .ensures) ∙ c .before .before .before .before .before .before .before .if2 .left) _ _ (c .before .before .before .before .before .l2 .given .1) (c .before .before .send .ensures .0) (c .before .before .send .ensures .1)
 
 same-length-5 : tie.Need-same-length-5
 same-length-5 c = search needs
@@ -86,7 +86,7 @@ returns-5 : tie.Need-returns-5
 returns-5 c =
     let a = c .before .before .before .before .before .before .before .before .before .before .before .before .before .args in
     obey-step (a .self) (a .l) (a .out .now) (a .at) (omega (arith, c .before .before .before .before .before .before .before .before .before .before .room-from .ensures, c .before .before .before .before .before .before .before .before .before .if1 .left)) (c .before .before .advance .result) _
-    (sym (c .before .before .before .before .before .before .before .before .is-refused .ensures) ∙ c .before .before .before .before .before .before .before .if2 .left) _ (c .before .before .before .before .before .l3 .given .1) (c .before .before .advance .ensures .0) (c .before .before .advance .ensures .1)
+    (sym (c .before .before .before .before .before .before .before .before .refuses .ensures) ∙ c .before .before .before .before .before .before .before .if2 .left) _ (c .before .before .before .before .before .l3 .given .1) (c .before .before .advance .ensures .0) (c .before .before .advance .ensures .1)
 
 same-length-6 : tie.Need-same-length-6
 same-length-6 c = search needs
@@ -105,7 +105,7 @@ obey-spec =
     room-from-requires
     same-length
     returns
-    is-refused-requires
+    refuses-requires
     turn-down-requires
     same-length-2
     returns-2

@@ -11,29 +11,29 @@ enum-told c = search needs
 enum-known-blow : tie.Need-enum-known-blow
 enum-known-blow c = search needs
 
-cast-struck-from : tie.Need-cast-struck-from
-cast-struck-from c = search needs
+cast-without : tie.Need-cast-without
+cast-without c = search needs
 
-struck-from-requires : tie.Need-struck-from-requires
-struck-from-requires c κs = search needs
+without-requires : tie.Need-without-requires
+without-requires c κs = search needs
 
 enum-known-blow-2 : tie.Need-enum-known-blow-2
 enum-known-blow-2 c = search needs
 
-cast-struck-from-2 : tie.Need-cast-struck-from-2
-cast-struck-from-2 c = search needs
+cast-without-2 : tie.Need-cast-without-2
+cast-without-2 c = search needs
 
-struck-from-requires-2 : tie.Need-struck-from-requires-2
-struck-from-requires-2 c κs = search needs
+without-requires-2 : tie.Need-without-requires-2
+without-requires-2 c κs = search needs
 
 enum-known-blow-3 : tie.Need-enum-known-blow-3
 enum-known-blow-3 c = search needs
 
-cast-struck-from-3 : tie.Need-cast-struck-from-3
-cast-struck-from-3 c = search needs
+cast-without-3 : tie.Need-cast-without-3
+cast-without-3 c = search needs
 
-struck-from-requires-3 : tie.Need-struck-from-requires-3
-struck-from-requires-3 c κs = search needs
+without-requires-3 : tie.Need-without-requires-3
+without-requires-3 c κs = search needs
 
 returns : tie.Need-returns
 unfolding liveAfter
@@ -41,15 +41,15 @@ returns c = rw (c .enum-told .given .1)
 
 returns-2 : tie.Need-returns-2
 unfolding liveAfter
-returns-2 c = c .struck-from .ensures ∙ rw (c .before .before .blow .given .1)
+returns-2 c = c .without .ensures ∙ rw (c .before .before .blow .given .1)
 
 returns-3 : tie.Need-returns-3
 unfolding liveAfter
-returns-3 c = c .struck-from2 .ensures ∙ rw (c .before .before .blow2 .given .1)
+returns-3 c = c .without2 .ensures ∙ rw (c .before .before .blow2 .given .1)
 
 returns-4 : tie.Need-returns-4
 unfolding liveAfter
-returns-4 c = c .struck-from3 .ensures ∙ rw (c .before .before .blow3 .given .1)
+returns-4 c = c .without3 .ensures ∙ rw (c .before .before .blow3 .given .1)
 
 pub live-after-spec : {M : Type 1} → statement M
 live-after-spec =
@@ -57,14 +57,14 @@ live-after-spec =
     (tie.spec
     enum-told
     enum-known-blow
-    cast-struck-from
-    struck-from-requires
+    cast-without
+    without-requires
     enum-known-blow-2
-    cast-struck-from-2
-    struck-from-requires-2
+    cast-without-2
+    without-requires-2
     enum-known-blow-3
-    cast-struck-from-3
-    struck-from-requires-3
+    cast-without-3
+    without-requires-3
     returns
     returns-2
     returns-3

@@ -11,8 +11,8 @@ enum-told c = search needs
 enum-known-stores : tie.Need-enum-known-stores
 enum-known-stores c = search needs
 
-receive-one-requires : tie.Need-receive-one-requires
-receive-one-requires c κs = search needs
+received-one-requires : tie.Need-received-one-requires
+received-one-requires c κs = search needs
 
 returns : tie.Need-returns
 unfolding received
@@ -20,8 +20,8 @@ returns c = rw (c .enum-told .given .1)
 
 returns-2 : tie.Need-returns-2
 unfolding received
-returns-2 c = c .receive-one .ensures ∙ rw (c .before .before .stores .given .1)
+returns-2 c = c .received-one .ensures ∙ rw (c .before .before .stores .given .1)
 
 pub receive-spec : {M : Type 1} → statement M
 receive-spec =
-    tie.close (tie.spec enum-told enum-known-stores receive-one-requires returns returns-2)
+    tie.close (tie.spec enum-told enum-known-stores received-one-requires returns returns-2)

@@ -12,20 +12,20 @@ returns : tie.Need-returns
 unfolding blowAt pick
 returns c = sym (pick-true _ _ (eq-eqb _ _ (c .if1 .taken)))
 
-struck-from-requires : tie.Need-struck-from-requires
-struck-from-requires c κs = search needs
+without-requires : tie.Need-without-requires
+without-requires c κs = search needs
 
-next-live-requires : tie.Need-next-live-requires
-next-live-requires c κs = search needs
+successor-requires : tie.Need-successor-requires
+successor-requires c κs = search needs
 
 returns-2 : tie.Need-returns-2
 unfolding blowAt pick
-returns-2 c = rw (ne-eqb _ _ (c .before .before .before .if1 .left), sym (c .before .before .struck-from .ensures), eq-eqb _ _ (sym (c .before .next-live .ensures) ∙ c .if2 .taken))
+returns-2 c = rw (ne-eqb _ _ (c .before .before .before .if1 .left), sym (c .before .before .without .ensures), eq-eqb _ _ (sym (c .before .successor .ensures) ∙ c .if2 .taken))
 
 returns-3 : tie.Need-returns-3
 unfolding blowAt pick
-returns-3 c = rw (ne-eqb _ _ (c .before .before .before .if1 .left), sym (c .before .before .struck-from .ensures), ne-eqb _ _ (λ e. c .if2 .left (c .before .next-live .ensures ∙ e)))
+returns-3 c = rw (ne-eqb _ _ (c .before .before .before .if1 .left), sym (c .before .before .without .ensures), ne-eqb _ _ (λ e. c .if2 .left (c .before .successor .ensures ∙ e)))
 
 pub blow-at-spec : {M : Type 1} → statement M
 blow-at-spec =
-    tie.close (tie.spec returns struck-from-requires next-live-requires returns-2 returns-3)
+    tie.close (tie.spec returns without-requires successor-requires returns-2 returns-3)

@@ -9,8 +9,8 @@ rest-requires c κs = search needs
 lands-by-requires : tie.Need-lands-by-requires
 lands-by-requires c κs = search needs
 
-flight-of-requires : tie.Need-flight-of-requires
-flight-of-requires c κs = search needs
+flight-requires : tie.Need-flight-requires
+flight-requires c κs = search needs
 
 failing-of-requires : tie.Need-failing-of-requires
 failing-of-requires c κs = search needs
@@ -22,7 +22,7 @@ close-requires : tie.Need-close-requires
 close-requires c κs = search needs
 
 returns : tie.Need-returns
-returns c = rw (c .close .ensures, c .before .blow-of .ensures, c .before .before .failing-of .ensures, c .before .before .before .flight-of .ensures, c .before .before .before .before .lands-by .ensures, c .before .before .before .before .before .rest .ensures)
+returns c = rw (c .close .ensures, c .before .blow-of .ensures, c .before .before .failing-of .ensures, c .before .before .before .flight .ensures, c .before .before .before .before .lands-by .ensures, c .before .before .before .before .before .rest .ensures)
 
 pub course-of-spec : {M : Type 1} → statement M
 course-of-spec =
@@ -30,7 +30,7 @@ course-of-spec =
     (tie.spec
     rest-requires
     lands-by-requires
-    flight-of-requires
+    flight-requires
     failing-of-requires
     blow-of-requires
     close-requires

@@ -11,11 +11,11 @@ number-of-requires c κs = search needs
 nothing-more-requires : tie.Need-nothing-more-requires
 nothing-more-requires c κs = search needs
 
-stay-quiet-requires : tie.Need-stay-quiet-requires
-stay-quiet-requires c κs = search needs
+quietly-requires : tie.Need-quietly-requires
+quietly-requires c κs = search needs
 
 returns : tie.Need-returns
-returns c = c .stay-quiet .ensures ∙ hears-quietly _ _ _ _ _ _ (c .before .before .before .number-of .ensures) (sym (c .before .before .nothing-more .ensures) ∙ c .before .if1 .taken)
+returns c = c .quietly .ensures ∙ hears-quietly _ _ _ _ _ _ (c .before .before .before .number-of .ensures) (sym (c .before .before .nothing-more .ensures) ∙ c .before .if1 .taken)
 
 reply-requires : tie.Need-reply-requires
 reply-requires c κs = search needs
@@ -29,7 +29,7 @@ hear-spec =
     (tie.spec
     number-of-requires
     nothing-more-requires
-    stay-quiet-requires
+    quietly-requires
     returns
     reply-requires
     returns-2)

@@ -6,16 +6,16 @@ use borrow.Author.Needs.{needs}
 use Rattle.station.proofs.rules.heard.lands_by.Statement.{statement}
 use Rattle.station.proofs.rules.heard.lands_by.Tie as tie
 
-flight-of-requires : tie.Need-flight-of-requires
-flight-of-requires c κs = search needs
+flight-requires : tie.Need-flight-requires
+flight-requires c κs = search needs
 
 returns : tie.Need-returns
 unfolding landsBy
-returns c = c .flight-of .ensures ∙ sym (pick-true _ _ (c .before .if1 .taken))
+returns c = c .flight .ensures ∙ sym (pick-true _ _ (c .before .if1 .taken))
 
 returns-2 : tie.Need-returns-2
 unfolding landsBy
 returns-2 c = sym (pick-false _ _ (c .if1 .left))
 
 pub lands-by-spec : {M : Type 1} → statement M
-lands-by-spec = tie.close (tie.spec flight-of-requires returns returns-2)
+lands-by-spec = tie.close (tie.spec flight-requires returns returns-2)

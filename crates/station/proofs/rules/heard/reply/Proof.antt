@@ -14,8 +14,8 @@ failing-of-requires c κs = search needs
 look-after-requires : tie.Need-look-after-requires
 look-after-requires c κs = search needs
 
-reply-to-requires : tie.Need-reply-to-requires
-reply-to-requires c κs = search needs
+reply-requires : tie.Need-reply-requires
+reply-requires c κs = search needs
 
 waiting-requires : tie.Need-waiting-requires
 waiting-requires c κs = search needs
@@ -31,7 +31,7 @@ verdict-of-requires c κs = search needs
 
 returns : tie.Need-returns
 unfolding replying
-returns c = c .verdict-of .ensures ∙ rw (c .before .stores-too .ensures, c .before .before .to-store .ensures, c .before .before .before .waiting .ensures, c .before .before .before .before .reply-to .ensures, c .before .before .before .before .before .look-after .ensures, c .before .before .before .before .before .before .failing-of .ensures, c .before .before .before .before .before .before .before .number-of .ensures)
+returns c = c .verdict-of .ensures ∙ rw (c .before .stores-too .ensures, c .before .before .to-store .ensures, c .before .before .before .waiting .ensures, c .before .before .before .before .reply .ensures, c .before .before .before .before .before .look-after .ensures, c .before .before .before .before .before .before .failing-of .ensures, c .before .before .before .before .before .before .before .number-of .ensures)
 
 pub reply-spec : {M : Type 1} → statement M
 reply-spec =
@@ -40,7 +40,7 @@ reply-spec =
     number-of-requires
     failing-of-requires
     look-after-requires
-    reply-to-requires
+    reply-requires
     waiting-requires
     to-store-requires
     stores-too-requires

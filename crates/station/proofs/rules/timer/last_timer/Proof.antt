@@ -2,7 +2,7 @@
 use mathlib.Core.Path.{sym, ap, _∙_}
 use Rattle.parts.proofs.Laws.Choose.{pick-true, pick-false}
 use borrow.Author.Tests.{eq-eqb, ne-eqb}
-use Rattle.plain_rules.specs.declared.round.Sight.{Sight}
+use Rattle.sent.specs.declared.round.Sight.{Sight}
 use Rattle.station.specs.Decide.{lastTimer, liveWithout}
 use borrow.Author.Needs.{needs}
 use Rattle.station.proofs.rules.timer.last_timer.Statement.{statement}
@@ -14,22 +14,22 @@ look-without-requires c κs = search needs
 resting-requires : tie.Need-resting-requires
 resting-requires c κs = search needs
 
-strike-out-requires : tie.Need-strike-out-requires
-strike-out-requires c κs = search needs
+strikes-out-requires : tie.Need-strikes-out-requires
+strikes-out-requires c κs = search needs
 
 returns : tie.Need-returns
 unfolding lastTimer liveWithout
-returns c = c .strike-out .ensures ∙ rw (c .before .resting .ensures) (sym (pick-true _ _ (eq-eqb _ _ (ap (λ (v : Sight). v .next) (sym (c .before .before .before .before .before .look-without .ensures)) ∙ c .before .before .if1 .taken))))
+returns c = c .strikes-out .ensures ∙ rw (c .before .resting .ensures) (sym (pick-true _ _ (eq-eqb _ _ (ap (λ (v : Sight). v .next) (sym (c .before .before .before .before .before .look-without .ensures)) ∙ c .before .before .if1 .taken))))
 
-send-instead-requires : tie.Need-send-instead-requires
-send-instead-requires c κs = search needs
+resend-requires : tie.Need-resend-requires
+resend-requires c κs = search needs
 
-go-on-requires : tie.Need-go-on-requires
-go-on-requires c κs = search needs
+going-on-requires : tie.Need-going-on-requires
+going-on-requires c κs = search needs
 
 returns-2 : tie.Need-returns-2
 unfolding lastTimer liveWithout
-returns-2 c = c .go-on .ensures ∙ rw (c .before .send-instead .ensures, c .before .before .before .before .before .look-without .ensures) (sym (pick-false _ _ (ne-eqb _ _ (λ e. c .before .before .if1 .left (ap (λ (v : Sight). v .next) (c .before .before .before .before .before .look-without .ensures) ∙ e)))))
+returns-2 c = c .going-on .ensures ∙ rw (c .before .resend .ensures, c .before .before .before .before .before .look-without .ensures) (sym (pick-false _ _ (ne-eqb _ _ (λ e. c .before .before .if1 .left (ap (λ (v : Sight). v .next) (c .before .before .before .before .before .look-without .ensures) ∙ e)))))
 
 pub last-timer-spec : {M : Type 1} → statement M
 last-timer-spec =
@@ -37,8 +37,8 @@ last-timer-spec =
     (tie.spec
     look-without-requires
     resting-requires
-    strike-out-requires
+    strikes-out-requires
     returns
-    send-instead-requires
-    go-on-requires
+    resend-requires
+    going-on-requires
     returns-2)

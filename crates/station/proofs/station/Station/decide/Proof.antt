@@ -17,21 +17,21 @@ returns : tie.Need-returns
 unfolding decided
 returns c = c .refuse .ensures ∙ rw (c .before .before .move-of .ensures) (sym (pick-false _ _ (ne-eqb _ _ (λ e. c .before .if1 .taken (c .before .before .move-of .ensures ∙ e)))))
 
-check-heard-requires : tie.Need-check-heard-requires
-check-heard-requires c κs = search needs
+checks-requires : tie.Need-checks-requires
+checks-requires c κs = search needs
 
 refuse-requires-2 : tie.Need-refuse-requires-2
 refuse-requires-2 c κs = search needs
 
 returns-2 : tie.Need-returns-2
 unfolding decided
-returns-2 c = c .refuse2 .ensures ∙ rw (c .before .before .check-heard .ensures) (sym (pick-true _ _ (eq-eqb _ _ (sym (c .before .before .before .before .move-of .ensures) ∙ c .before .before .before .if1 .left)) ∙ pick-false _ _ (ne-eqb _ _ (λ e. c .before .if2 .taken (c .before .before .check-heard .ensures ∙ e)))))
+returns-2 c = c .refuse2 .ensures ∙ rw (c .before .before .checks .ensures) (sym (pick-true _ _ (eq-eqb _ _ (sym (c .before .before .before .before .move-of .ensures) ∙ c .before .before .before .if1 .left)) ∙ pick-false _ _ (ne-eqb _ _ (λ e. c .before .if2 .taken (c .before .before .checks .ensures ∙ e)))))
 
 number-of-requires : tie.Need-number-of-requires
 number-of-requires c κs = search needs
 
-is-acknowledged-requires : tie.Need-is-acknowledged-requires
-is-acknowledged-requires c κs = search needs
+acknowledged-requires : tie.Need-acknowledged-requires
+acknowledged-requires c κs = search needs
 
 course-of-requires : tie.Need-course-of-requires
 course-of-requires c κs = search needs
@@ -41,7 +41,7 @@ hear-requires c κs = search needs
 
 returns-3 : tie.Need-returns-3
 unfolding decided
-returns-3 c = c .hear .ensures ∙ rw (c .before .course-of .ensures, c .before .before .is-acknowledged .ensures, c .before .before .before .number-of .ensures) (sym (pick-true _ _ (eq-eqb _ _ (sym (c .before .before .before .before .before .before .before .move-of .ensures) ∙ c .before .before .before .before .before .before .if1 .left)) ∙ pick-true _ _ (eq-eqb _ _ (sym (c .before .before .before .before .before .check-heard .ensures) ∙ c .before .before .before .before .if2 .left))))
+returns-3 c = c .hear .ensures ∙ rw (c .before .course-of .ensures, c .before .before .acknowledged .ensures, c .before .before .before .number-of .ensures) (sym (pick-true _ _ (eq-eqb _ _ (sym (c .before .before .before .before .before .before .before .move-of .ensures) ∙ c .before .before .before .before .before .before .if1 .left)) ∙ pick-true _ _ (eq-eqb _ _ (sym (c .before .before .before .before .before .checks .ensures) ∙ c .before .before .before .before .if2 .left))))
 
 pub decide-spec : {M : Type 1} → statement M
 decide-spec =
@@ -50,11 +50,11 @@ decide-spec =
     move-of-requires
     refuse-requires
     returns
-    check-heard-requires
+    checks-requires
     refuse-requires-2
     returns-2
     number-of-requires
-    is-acknowledged-requires
+    acknowledged-requires
     course-of-requires
     hear-requires
     returns-3)

@@ -14,12 +14,12 @@ turn-alone-requires c κs = search needs
 returns : tie.Need-returns
 returns c = c .turn-alone .ensures ∙ hears-turned _ _ _ _ _ (c .before .before .decide .ensures) (c .before .if1 .taken)
 
-carry-out-requires : tie.Need-carry-out-requires
-carry-out-requires c κs = search needs
+carried-out-requires : tie.Need-carried-out-requires
+carried-out-requires c κs = search needs
 
 returns-2 : tie.Need-returns-2
-returns-2 c = c .carry-out .ensures ∙ hears-carried _ _ _ _ _ (c .before .before .decide .ensures)
+returns-2 c = c .carried-out .ensures ∙ hears-carried _ _ _ _ _ (c .before .before .decide .ensures)
 
 pub frame-spec : {M : Type 1} → statement M
 frame-spec =
-    tie.close (tie.spec decide-requires turn-alone-requires returns carry-out-requires returns-2)
+    tie.close (tie.spec decide-requires turn-alone-requires returns carried-out-requires returns-2)

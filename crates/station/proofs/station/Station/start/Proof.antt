@@ -11,30 +11,30 @@ use Rattle.station.proofs.station.Station.start.Tie as tie
 move-of-requires : tie.Need-move-of-requires
 move-of-requires c κs = search needs
 
-number-alone-requires : tie.Need-number-alone-requires
-number-alone-requires c κs = search needs
+answered-requires : tie.Need-answered-requires
+answered-requires c κs = search needs
 
 returns : tie.Need-returns
 unfolding startRule
-returns c = c .number-alone .ensures ∙ sym (moved-stops _ Start _ (c .before .before .move-of .ensures) (c .before .if1 .taken))
+returns c = c .answered .ensures ∙ sym (moved-stops _ Start _ (c .before .before .move-of .ensures) (c .before .if1 .taken))
 
-starting-of-requires : tie.Need-starting-of-requires
-starting-of-requires c κs = search needs
+starting-requires : tie.Need-starting-requires
+starting-requires c κs = search needs
 
 turn-alone-requires : tie.Need-turn-alone-requires
 turn-alone-requires c κs = search needs
 
 returns-2 : tie.Need-returns-2
 unfolding startRule
-returns-2 c = c .turn-alone .ensures ∙ rw (c .before .starting-of .ensures) (sym (moved-runs _ Start _ (c .before .before .before .move-of .ensures) (c .before .before .if1 .left) ∙ start-decides _))
+returns-2 c = c .turn-alone .ensures ∙ rw (c .before .starting .ensures) (sym (moved-runs _ Start _ (c .before .before .before .move-of .ensures) (c .before .before .if1 .left) ∙ start-decides _))
 
 pub start-spec : {M : Type 1} → statement M
 start-spec =
     tie.close
     (tie.spec
     move-of-requires
-    number-alone-requires
+    answered-requires
     returns
-    starting-of-requires
+    starting-requires
     turn-alone-requires
     returns-2)

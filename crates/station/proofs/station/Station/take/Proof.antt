@@ -1,7 +1,7 @@
 -- `Station::take` meets its contract: the table of moves, then the checks, then the message is handed out.
 use mathlib.Core.Path.{sym, ap, _∙_}
 use Rattle.station.specs.Take.{takeRule}
-use Rattle.plain_rules.specs.Refusals.{takeRefusal}
+use Rattle.parts.specs.Refusals.{takeRefusal}
 use Rattle.parts.specs.declared.list.Best.{Best}
 use Rattle.station.proofs.Laws.Moved.{moved-runs, moved-stops, unless-passes, unless-refuses}
 use borrow.Author.Needs.{needs}
@@ -11,12 +11,12 @@ use Rattle.station.proofs.station.Station.take.Tie as tie
 move-of-requires : tie.Need-move-of-requires
 move-of-requires c κs = search needs
 
-number-alone-requires : tie.Need-number-alone-requires
-number-alone-requires c κs = search needs
+answered-requires : tie.Need-answered-requires
+answered-requires c κs = search needs
 
 returns : tie.Need-returns
 unfolding takeRule
-returns c = c .number-alone .ensures ∙ sym (moved-stops _ _ _ (c .before .before .move-of .ensures) (c .before .if1 .taken))
+returns c = c .answered .ensures ∙ sym (moved-stops _ _ _ (c .before .before .move-of .ensures) (c .before .if1 .taken))
 
 best-on-requires : tie.Need-best-on-requires
 best-on-requires c κs = search needs
@@ -24,30 +24,30 @@ best-on-requires c κs = search needs
 take-refusal-requires : tie.Need-take-refusal-requires
 take-refusal-requires c κs = search needs
 
-number-alone-requires-2 : tie.Need-number-alone-requires-2
-number-alone-requires-2 c κs = search needs
+answered-requires-2 : tie.Need-answered-requires-2
+answered-requires-2 c κs = search needs
 
 returns-2 : tie.Need-returns-2
 unfolding takeRule
-returns-2 c = c .number-alone2 .ensures ∙ sym (moved-runs _ _ _ (c .before .before .before .before .before .move-of .ensures) (c .before .before .before .before .if1 .left) ∙ unless-refuses _ _ _ (c .before .before .take-refusal .ensures ∙ ap (λ (b : Best). takeRefusal (c .before .before .before .before .before .before .before .args .channel) b (c .before .before .before .before .before .before .before .args .room)) (c .before .before .before .best-on .ensures)) (c .before .if2 .taken))
+returns-2 c = c .answered2 .ensures ∙ sym (moved-runs _ _ _ (c .before .before .before .before .before .move-of .ensures) (c .before .before .before .before .if1 .left) ∙ unless-refuses _ _ _ (c .before .before .take-refusal .ensures ∙ ap (λ (b : Best). takeRefusal (c .before .before .before .before .before .before .before .args .channel) b (c .before .before .before .before .before .before .before .args .room)) (c .before .before .before .best-on .ensures)) (c .before .if2 .taken))
 
-hand-out-requires : tie.Need-hand-out-requires
-hand-out-requires c κs = search needs
+taking-requires : tie.Need-taking-requires
+taking-requires c κs = search needs
 
 returns-3 : tie.Need-returns-3
 unfolding takeRule
-returns-3 c = c .hand-out .ensures ∙ rw (c .before .before .before .best-on .ensures) (sym (moved-runs _ _ _ (c .before .before .before .before .before .move-of .ensures) (c .before .before .before .before .if1 .left) ∙ unless-passes _ _ _ (c .before .before .take-refusal .ensures ∙ ap (λ (b : Best). takeRefusal (c .before .before .before .before .before .before .before .args .channel) b (c .before .before .before .before .before .before .before .args .room)) (c .before .before .before .best-on .ensures)) (c .before .if2 .left)))
+returns-3 c = c .taking .ensures ∙ rw (c .before .before .before .best-on .ensures) (sym (moved-runs _ _ _ (c .before .before .before .before .before .move-of .ensures) (c .before .before .before .before .if1 .left) ∙ unless-passes _ _ _ (c .before .before .take-refusal .ensures ∙ ap (λ (b : Best). takeRefusal (c .before .before .before .before .before .before .before .args .channel) b (c .before .before .before .before .before .before .before .args .room)) (c .before .before .before .best-on .ensures)) (c .before .if2 .left)))
 
 pub take-spec : {M : Type 1} → statement M
 take-spec =
     tie.close
     (tie.spec
     move-of-requires
-    number-alone-requires
+    answered-requires
     returns
     best-on-requires
     take-refusal-requires
-    number-alone-requires-2
+    answered-requires-2
     returns-2
-    hand-out-requires
+    taking-requires
     returns-3)

@@ -10,43 +10,43 @@ use Rattle.station.proofs.station.Station.timer.Tie as tie
 move-of-requires : tie.Need-move-of-requires
 move-of-requires c κs = search needs
 
-number-alone-requires : tie.Need-number-alone-requires
-number-alone-requires c κs = search needs
+answered-requires : tie.Need-answered-requires
+answered-requires c κs = search needs
 
 returns : tie.Need-returns
 unfolding timerRule onTimer
-returns c = c .number-alone .ensures ∙ sym (moved-stops _ Timer _ (c .before .before .move-of .ensures) (c .before .if1 .taken))
+returns c = c .answered .ensures ∙ sym (moved-stops _ Timer _ (c .before .before .move-of .ensures) (c .before .if1 .taken))
 
 enum-told : tie.Need-enum-told
 enum-told c = search needs
 
-number-alone-requires-2 : tie.Need-number-alone-requires-2
-number-alone-requires-2 c κs = search needs
+answered-requires-2 : tie.Need-answered-requires-2
+answered-requires-2 c κs = search needs
 
 enum-known-awaited : tie.Need-enum-known-awaited
 enum-known-awaited c = search needs
 
-wait-on-requires : tie.Need-wait-on-requires
-wait-on-requires c κs = search needs
+silence-requires : tie.Need-silence-requires
+silence-requires c κs = search needs
 
 returns-2 : tie.Need-returns-2
 unfolding timerRule onTimer
-returns-2 c = c .number-alone2 .ensures ∙ sym (moved-runs _ Timer _ (c .before .before .before .before .move-of .ensures) (c .before .before .before .if1 .left) ∙ rw (c .before .enum-told .given .1))
+returns-2 c = c .answered2 .ensures ∙ sym (moved-runs _ Timer _ (c .before .before .before .before .move-of .ensures) (c .before .before .before .if1 .left) ∙ rw (c .before .enum-told .given .1))
 
 returns-3 : tie.Need-returns-3
 unfolding timerRule onTimer
-returns-3 c = c .wait-on .ensures ∙ sym (moved-runs _ Timer _ (c .before .before .before .before .before .move-of .ensures) (c .before .before .before .before .if1 .left) ∙ rw (c .before .before .awaited .given .1))
+returns-3 c = c .silence .ensures ∙ sym (moved-runs _ Timer _ (c .before .before .before .before .before .move-of .ensures) (c .before .before .before .before .if1 .left) ∙ rw (c .before .before .awaited .given .1))
 
 pub timer-spec : {M : Type 1} → statement M
 timer-spec =
     tie.close
     (tie.spec
     move-of-requires
-    number-alone-requires
+    answered-requires
     returns
     enum-told
-    number-alone-requires-2
+    answered-requires-2
     enum-known-awaited
-    wait-on-requires
+    silence-requires
     returns-2
     returns-3)

@@ -1,0 +1,3 @@
+-- Demand 3 at a driver's calls.
+pub mod Laws
+pub mod Theorems

@@ -1,0 +1,3 @@
+pub mod Cell
+pub mod AsBench
+pub mod Waiting

@@ -1,0 +1,1 @@
+// Demand 3 at a driver's calls: theorems, no code.

@@ -1,0 +1,4 @@
+pub mod Calls
+pub mod Making
+pub mod Hearing
+pub mod Handing

@@ -1,0 +1,123 @@
+-- `hearing::frame` meets its contract: at each return the tests that led there say which number it is, and what is left.
+use mathlib.Core.Path.{_≡_, sym, _∙_}
+use mathlib.Core.Bool.{false}
+use native.Mathlib.Omega.{arith}
+use lib.ListN.{length}
+use Rattle.records.proofs.Laws.Load.{Held, none-held, opened-held}
+use Rattle.driver_calls.specs.Calls.{badBuffers}
+use Rattle.driver_calls.proofs.Laws.Calls.{few-held, information-short, good-buffers, refused-9, refused-35}
+use Rattle.driver_calls.proofs.Laws.Hearing.{not-heard, heard-refused, heard-done}
+use borrow.Author.Needs.{needs}
+use Rattle.driver_calls.proofs.hearing.frame.Statement.{statement}
+use Rattle.driver_calls.proofs.hearing.frame.Tie as tie
+
+bad-buffers-requires : tie.Need-bad-buffers-requires
+bad-buffers-requires c κs = search needs
+
+returns : tie.Need-returns
+returns c = not-heard (refused-9 (sym (c .before .bad-buffers .ensures) ∙ c .if1 .taken))
+
+good-buffers-at : (c : tie.Else1) → badBuffers (length (c .before .before .before .before .before .before .args .store .now)) (length (c .before .before .before .before .before .before .args .out .now)) ≡ false
+good-buffers-at c = sym (c .before .bad-buffers .ensures) ∙ c .if1 .left
+
+held-at : (c : tie.Else2) → Held (c .before .before .before .before .before .before .before .before .before .before .before .before .args .rec .now) (c .before .before .before .open .last .1 .0) (c .before .before .before .open .result .n) (c .before .before .before .open .result)
+held-at c = opened-held (c .before .before .before .open .ensures) (c .if2 .left)
+
+slice-aggregate-open : tie.Need-slice-aggregate-open
+slice-aggregate-open c = search needs
+
+open-requires : tie.Need-open-requires
+open-requires c κs = search needs
+
+cast-n : tie.Need-cast-n
+cast-n c = search needs
+
+same-length : tie.Need-same-length
+same-length c = search needs
+
+returns-2 : tie.Need-returns-2
+returns-2 c = not-heard (refused-35 (good-buffers-at (c .before .before .before .before .before .before)) (none-held (c .before .before .before .open .ensures) (c .if2 .taken)))
+
+slice-aggregate-members : tie.Need-slice-aggregate-members
+slice-aggregate-members c = search needs
+
+members-requires : tie.Need-members-requires
+members-requires c κs = search needs
+
+packet-rule-requires : tie.Need-packet-rule-requires
+packet-rule-requires c κs = few-held (held-at (c .before .before)) _ (c .members .ensures)
+
+same-length-2 : tie.Need-same-length-2
+same-length-2 c = search needs
+
+returns-3 : tie.Need-returns-3
+returns-3 c =
+    let e = c .before .before .before .before .before in
+    heard-refused _ (good-buffers-at (e .before .before .before .before .before .before)) (held-at e) (c .before .before .before .members .ensures) (c .before .before .packet-rule .ensures) (c .if3 .taken)
+
+slice-aggregate-members-2 : tie.Need-slice-aggregate-members-2
+slice-aggregate-members-2 c = slice-aggregate-members (c .before .before .before .before .before .before .before .before)
+
+members-requires-2 : tie.Need-members-requires-2
+members-requires-2 c κs = search needs
+
+information-of-requires : tie.Need-information-of-requires
+information-of-requires c κs = search needs
+
+settle-requires : tie.Need-settle-requires
+settle-requires c κs =
+    let e = c .before .before .before .before .before .before .before .before .before .before .before .before in
+    let h = held-at e .sized in
+    (omega (arith, h), (good-buffers _ _ (good-buffers-at (e .before .before .before .before .before .before)) .1, information-short _ _ _ (c .information-of .ensures)))
+
+heard-information-requires : tie.Need-heard-information-requires
+heard-information-requires c κs = search needs
+
+put-received-requires : tie.Need-put-received-requires
+put-received-requires c κs = search needs
+
+same-length-3 : tie.Need-same-length-3
+same-length-3 c = search needs
+
+same-length-4 : tie.Need-same-length-4
+same-length-4 c = search needs
+
+same-length-5 : tie.Need-same-length-5
+same-length-5 c = search needs
+
+returns-4 : tie.Need-returns-4
+returns-4 c =
+    let e = c .before .before .before .before .before .before .before .before .before .before .before .before .before .before .before .before .before .before .before .before .before .before in
+    heard-done _ (good-buffers-at (e .before .before .before .before .before .before)) (held-at e) (c .before .before .before .before .before .before .before .before .before .before .before .before .before .before .before .before .before .before .before .before .members .ensures) (c .before .before .before .before .before .before .before .before .before .before .before .before .before .before .before .before .before .before .before .packet-rule .ensures) (c .before .before .before .before .before .before .before .before .before .before .before .before .before .before .before .before .before .if3 .left) _ _ _ _ _ _ _
+    (c .before .before .before .before .before .before .before .before .before .before .before .before .members2 .ensures)
+    (c .before .before .before .before .before .before .before .before .before .before .information-of .ensures)
+    (c .before .before .before .before .before .before .before .before .before .settle .ensures)
+    (c .before .before .before .heard-information .ensures)
+    (c .before .before .put-received .ensures)
+
+pub frame-spec : {M : Type 1} → statement M
+frame-spec =
+    tie.close
+    (tie.spec
+    bad-buffers-requires
+    returns
+    slice-aggregate-open
+    open-requires
+    cast-n
+    same-length
+    returns-2
+    slice-aggregate-members
+    members-requires
+    packet-rule-requires
+    same-length-2
+    returns-3
+    slice-aggregate-members-2
+    members-requires-2
+    information-of-requires
+    settle-requires
+    heard-information-requires
+    put-received-requires
+    same-length-3
+    same-length-4
+    same-length-5
+    returns-4)

@@ -1,0 +1,110 @@
+-- `taking::take` meets its contract: at each return the tests that led there say which number it is, and what is left. Assumes nothing.
+use mathlib.Core.Path.{_≡_, _∙_}
+use mathlib.Core.Bool.{false}
+use native.Mathlib.Omega.{arith}
+use lib.ListN.{length}
+use Rattle.records.proofs.Laws.Load.{Held, none-held, opened-held}
+use Rattle.driver_calls.specs.Calls.{badStore}
+use Rattle.driver_calls.proofs.Laws.Calls.{refused-9, refused-35, refused-own, done}
+use Rattle.driver_calls.proofs.Laws.Handing.{store-bad, store-good, take-answer, not-taken, all-taken}
+use borrow.Author.Needs.{needs}
+use Rattle.driver_calls.proofs.taking.take.Statement.{statement}
+use Rattle.driver_calls.proofs.taking.take.Tie as tie
+
+returns : tie.Need-returns
+returns c = not-taken (refused-9 (store-bad (c .if1 .taken)))
+
+good-buffers-at : (c : tie.Else1) → badStore (length (c .before .before .before .before .args .store .now)) ≡ false
+good-buffers-at c = store-good (c .if1 .left)
+
+held-at : (c : tie.Else2) → Held (c .before .before .before .before .before .before .before .before .before .before .args .rec .now) (c .before .before .before .open .last .1 .0) (c .before .before .before .open .result .n) (c .before .before .before .open .result)
+held-at c = opened-held (c .before .before .before .open .ensures) (c .if2 .left)
+
+slice-aggregate-open : tie.Need-slice-aggregate-open
+slice-aggregate-open c = search needs
+
+open-requires : tie.Need-open-requires
+open-requires c κs = search needs
+
+cast-n : tie.Need-cast-n
+cast-n c = search needs
+
+same-length : tie.Need-same-length
+same-length c = search needs
+
+returns-2 : tie.Need-returns-2
+returns-2 c = not-taken (refused-35 (good-buffers-at (c .before .before .before .before .before .before)) (none-held (c .before .before .before .open .ensures) (c .if2 .taken)))
+
+take-requires : tie.Need-take-requires
+take-requires c κs = search needs
+
+same-length-2 : tie.Need-same-length-2
+same-length-2 c = search needs
+
+returns-3 : tie.Need-returns-3
+returns-3 c =
+    let e = c .before .before .before in
+    let a = e .before .before .before .before .before .before .before .before .before .before .args in
+    let b = take-answer (held-at e) (a .channel) (a .room .now) _ (c .before .before .take .ensures) in
+    not-taken (refused-own (good-buffers-at (e .before .before .before .before .before .before)) (held-at e .ok) _ b (c .if3 .taken))
+
+taken-part-requires : tie.Need-taken-part-requires
+taken-part-requires c κs = search needs
+
+lay-taken-requires : tie.Need-lay-taken-requires
+lay-taken-requires c κs = search needs
+
+save-requires : tie.Need-save-requires
+save-requires c κs =
+    let h = held-at (c .before .before .before .before .before .before .before .before .before .before) .sized in
+    omega (arith, h)
+
+slice-aggregate-members : tie.Need-slice-aggregate-members
+slice-aggregate-members c = search needs
+
+members-requires : tie.Need-members-requires
+members-requires c κs = search needs
+
+tell-taken-requires : tie.Need-tell-taken-requires
+tell-taken-requires c κs = search needs
+
+same-length-3 : tie.Need-same-length-3
+same-length-3 c = search needs
+
+same-length-4 : tie.Need-same-length-4
+same-length-4 c = search needs
+
+returns-4 : tie.Need-returns-4
+returns-4 c =
+    let e = c .before .before .before .before .before .before .before .before .before .before .before .before .before .before .before .before in
+    let a = e .before .before .before .before .before .before .before .before .before .before .args in
+    let b = take-answer (held-at e) (a .channel) (a .room .now) _ (c .before .before .before .before .before .before .before .before .before .before .before .before .before .before .before .take .ensures) in
+    all-taken _ _ _ _ _ _ (done (good-buffers-at (e .before .before .before .before .before .before)) (held-at e .ok) _ b (c .before .before .before .before .before .before .before .before .before .before .before .before .before .if3 .left)) b
+    (c .before .members .ensures ∙ held-at e .members)
+    (c .before .before .before .before .before .before .before .before .before .before .taken-part .ensures)
+    (c .before .before .before .before .before .save .ensures)
+    (c .before .before .before .before .before .before .before .before .before .lay-taken .ensures)
+    (c .tell-taken .ensures)
+
+pub take-spec : {M : Type 1} → statement M
+take-spec =
+    tie.close
+    (tie.spec
+    returns
+    slice-aggregate-open
+    open-requires
+    cast-n
+    same-length
+    returns-2
+    take-requires
+    same-length-2
+    returns-3
+    taken-part-requires
+    lay-taken-requires
+    save-requires
+    slice-aggregate-members
+    members-requires
+    tell-taken-requires
+    same-length-3
+    same-length-4
+    returns-4)

@@ -1,0 +1,92 @@
+// A frame is heard.
+ghost use mathlib.Core.Path.{_≡_};
+ghost use Prim.Native.Nat.{_≤_};
+ghost use lib.ListN.{length};
+ghost use Rattle.driver_calls.specs.Calls.{Hearing, packetRule, heardInformation};
+use crate::sending::bad_buffers;
+use crate::sending::settle;
+use codec::ring::members;
+use driver_buffers::packets::frame_of;
+use driver_buffers::packets::seat;
+use driver_buffers::places::information_of;
+use driver_buffers::places::put_received;
+use packet_codec::packet::Packet;
+use packet_codec::reading::Read;
+use packet_codec::reading::read_packet;
+use parts::moves::Event;
+use records::record::open;
+use station::station::Answer;
+use station::station::Payload;
+use station::station::Station;
+
+// The information of a heard frame whose message is stored.
+pub fn heard_information(packet: &[u8], p: Payload) -> &[u8]
+    ensures { λ r. ⌜ now r ≡ heardInformation (now (packet .entry)) p ⌝ }
+{
+    match p {
+        Payload::NoPayload => &packet[..0],
+        Payload::Of(m) => Packet::information_in(packet, m.length),
+    }
+}
+
+// What a station answers to a packet that is heard: 22, then 13, then 10 to 12, then the rule.
+pub fn packet_rule(s: Station, ring: &[u64], from: u64, to: u64, packet: &[u8]) -> Answer
+    requires { ⌜ length (now ring) ≤ 64 ⌝ }
+    ensures { λ r. ⌜ r ≡ packetRule s (now (ring .entry)) from to (now (packet .entry)) ⌝ }
+{
+    let turn = s.turn;
+    let state = turn.state;
+    let m = parts::moves::move_of(state, Event::Heard);
+    if m != parts::moves::RUN {
+        return station::station::answered(s, m);
+    }
+    let f = seat(ring, from);
+    let t = seat(ring, to);
+    let k = station::rules::heard::checks(s, f, t);
+    if k != 0 {
+        return station::station::answered(s, k);
+    }
+    match read_packet(ring, packet) {
+        Read::Refused(number) => station::station::answered(s, number),
+        Read::Good(p) => s.frame(frame_of(ring, p), f, t),
+    }
+}
+
+// A frame is heard.
+pub fn frame(
+    rec: &mut [u8],
+    store: &mut [u8],
+    from: u64,
+    to: u64,
+    packet: &[u8],
+    out: &mut [u8],
+    told: &mut [u64; 84],
+) -> u32
+    ensures { λ r. ⌜ Hearing (now (rec .entry)) (now (store .entry)) from to (now (packet .entry)) (now (out .entry)) (now (told .entry)) r (now (rec .exit)) (now (store .exit)) (now (out .exit)) (now (told .exit)) ⌝ }
+{
+    if bad_buffers(store.len(), out.len()) {
+        return 9;
+    }
+    let mut addresses = [0u64; 64];
+    let s = open(rec, &mut addresses);
+    let n = s.n as usize;
+    if n == 0 {
+        return 35;
+    }
+    let a = packet_rule(s, members(&addresses, n), from, to, packet);
+    if a.number != 0 {
+        return a.number;
+    }
+    let sent = a.sent;
+    let payload = a.payload;
+    settle(
+        rec,
+        out,
+        told,
+        members(&addresses, n),
+        information_of(store, sent),
+        a,
+    );
+    put_received(store, payload, heard_information(packet, payload));
+    0
+}

@@ -1,0 +1,55 @@
+// A message is handed over.
+ghost use mathlib.Core.Path.{_≡_};
+ghost use lib.ListN.{length};
+ghost use Rattle.driver_calls.specs.Calls.{ringIn, requestOf, Queueing};
+use codec::ring::members;
+use driver_buffers::places::put_queued;
+use parts::request::Request;
+use records::layout::STORE;
+use records::record::open;
+use records::record::save;
+
+// What a driver's numbers ask for: its `to` is an address.
+fn request_of(ring: &[u64], to: u64, priority: usize, channel: usize, length: usize) -> Request
+    ensures { λ r. ⌜ r ≡ requestOf (now (ring .entry)) to priority channel «length» ⌝ }
+{
+    let p = codec::ring::position(ring, to);
+    Request {
+        to: p,
+        priority,
+        channel,
+        length,
+    }
+}
+
+// A message is handed over.
+pub fn queue(
+    rec: &mut [u8],
+    store: &mut [u8],
+    to: u64,
+    priority: usize,
+    channel: usize,
+    payload: &[u8],
+) -> u32
+    ensures { λ r. ⌜ Queueing (now (rec .entry)) (now (store .entry)) (requestOf (ringIn (now (rec .entry))) to priority channel (length (now (payload .entry)))) (now (payload .entry)) r (now (rec .exit)) (now (store .exit)) ⌝ }
+{
+    if store.len() != STORE {
+        return 9;
+    }
+    let mut addresses = [0u64; 64];
+    let s = open(rec, &mut addresses);
+    let n = s.n as usize;
+    if n == 0 {
+        return 35;
+    }
+    let q = request_of(members(&addresses, n), to, priority, channel, payload.len());
+    let a = s.queue(q);
+    if a.number != 0 {
+        return a.number;
+    }
+    let station = a.station;
+    let moved = a.payload;
+    save(rec, station);
+    put_queued(store, moved, payload);
+    0
+}

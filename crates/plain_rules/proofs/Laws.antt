@@ -1,3 +1,0 @@
--- Laws of the definitions that the functions' proofs use, one file for each.
-pub mod Queue
-pub mod Resend

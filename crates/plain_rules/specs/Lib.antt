@@ -1,4 +1,0 @@
-pub mod Round
-pub mod Resend
-pub mod Refusals
-pub mod Heard

@@ -1,4 +1,0 @@
-pub mod Places
-pub mod Packets
-pub mod Telling
-pub mod Calls
