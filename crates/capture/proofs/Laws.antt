@@ -1,0 +1,3 @@
+-- Laws of the capture's definitions.
+pub mod Fields
+pub mod Reading
