@@ -1,5 +1,5 @@
 -- A capture: records one after the other, each bit-packed, the most significant bit first.
-use Prim.Native.Nat.{ℕ, _+_, _*_, _%_, _^_}
+use Prim.Native.Nat.{ℕ, _+_, _*_, _%_, _^_, _<_}
 use mathlib.Core.Bool.{Bool, not, _&&_, _||_}
 use mathlib.Core.List.{List, [], _∷_}
 use lib.Dec.{ltb, leb, eqb}
@@ -100,12 +100,16 @@ readRecord n s at =
 
 -- ---- writing
 
+-- a kind and a station, and no other field set
+abbrev pub plainFields : ℕ → ℕ → Fields
+plainFields kind station = record { kind = kind; station = station; destination = 0; priority = 0; channel = 0; length = 0; zeros = 0 }
+
 -- the fields of an event's record
 unfoldable pub eventFields : Event → Fields
-eventFields Delivered = record { kind = 0; station = 0; destination = 0; priority = 0; channel = 0; length = 0; zeros = 0 }
-eventFields LostForAddressee = record { kind = 1; station = 0; destination = 0; priority = 0; channel = 0; length = 0; zeros = 0 }
-eventFields LostForAll = record { kind = 2; station = 0; destination = 0; priority = 0; channel = 0; length = 0; zeros = 0 }
-eventFields (Timer station) = record { kind = 3; station = station; destination = 0; priority = 0; channel = 0; length = 0; zeros = 0 }
+eventFields Delivered = plainFields 0 0
+eventFields LostForAddressee = plainFields 1 0
+eventFields LostForAll = plainFields 2 0
+eventFields (Timer station) = plainFields 3 station
 eventFields (Queue station q) =
     record { kind = 4; station = station; destination = q .to; priority = q .priority; channel = q .channel; length = q .length; zeros = 0 }
 
@@ -117,3 +121,20 @@ packed f =
 
 unfoldable pub recordOctets : Event → List ℕ
 recordOctets e = octets recordLength (packed (eventFields e))
+
+-- ---- what a record can hold
+
+-- a queue: positions in the ring of n, a priority of 8 bits, a channel of 3, a length of 11
+pub record QueueFits (n station : ℕ) (q : Request) : Type 0 where
+  pub station-in : station < n
+  pub to-in : q .to < n
+  pub priority-fits : q .priority < 2 ^ 8
+  pub channel-fits : q .channel < 2 ^ 3
+  pub length-fits : q .length < 2 ^ 11
+
+abbrev pub EventFits : ℕ → Event → Type 0
+EventFits n Delivered = Unit {0}
+EventFits n LostForAddressee = Unit {0}
+EventFits n LostForAll = Unit {0}
+EventFits n (Timer station) = station < n
+EventFits n (Queue station q) = QueueFits n station q

@@ -1,10 +1,10 @@
 -- Laws of a record's fields: side by side they are the number of its octets. Assumes nothing.
-use mathlib.Core.Path.{_≡_, refl, sym, ap, _∙_}
+use mathlib.Core.Path.{_≡_, sym, ap, _∙_}
 use mathlib.Core.List.{List}
 use Prim.Native.Nat.{ℕ, _+_, _*_, _/_, _%_, _^_, _<_, _≤_}
 use native.Mathlib.Omega.{arith}
 use lib.ListN.{length}
-use Rattle.codec.specs.Octets.{Octets, number, numberAt}
+use Rattle.codec.specs.Octets.{Octets, numberAt}
 use Rattle.codec.specs.Bits.{bits}
 use Rattle.codec.proofs.Laws.Bits.{bits-below, bits-join, bits-octets}
 use Rattle.capture.specs.Record.{recordLength, fieldsOf, packed}

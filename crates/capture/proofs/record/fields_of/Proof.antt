@@ -1,5 +1,5 @@
 -- `record::fields_of` meets its contract: the fields of the octets' number.
-use mathlib.Core.Path.{sym, ap, _∙_}
+use mathlib.Core.Path.{ap, _∙_}
 use native.Mathlib.Omega.{arith}
 use borrow.Author.Needs.{needs}
 use Rattle.codec.specs.Octets.{Octets}

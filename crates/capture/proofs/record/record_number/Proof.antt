@@ -8,14 +8,14 @@ use Rattle.capture.proofs.record.record_number.Tie as tie
 
 returns : tie.Need-returns
 unfolding recordNumber
-returns c = rw (lt-ltb _ _ (c .if1 .taken))
+returns c = rw (lt-ltb 4 _ (c .if1 .taken))
 
 outside-requires : tie.Need-outside-requires
 outside-requires c κs = search needs
 
 returns-2 : tie.Need-returns-2
 unfolding recordNumber
-returns-2 c = rw (le-ltb _ _ (c .before .before .if1 .left), sym (c .before .outside .ensures) ∙ c .if2 .taken)
+returns-2 c = rw (le-ltb 4 _ (c .before .before .if1 .left), sym (c .before .outside .ensures) ∙ c .if2 .taken)
 
 unused-set-requires : tie.Need-unused-set-requires
 unused-set-requires c κs = search needs
@@ -24,21 +24,21 @@ returns-3 : tie.Need-returns-3
 unfolding recordNumber
 returns-3 c =
     let e2 = c .before .before in
-    rw (le-ltb _ _ (e2 .before .before .if1 .left), sym (e2 .before .outside .ensures) ∙ e2 .if2 .left, sym (c .before .unused-set .ensures) ∙ c .if3 .taken)
+    rw (le-ltb 4 _ (e2 .before .before .if1 .left), sym (e2 .before .outside .ensures) ∙ e2 .if2 .left, sym (c .before .unused-set .ensures) ∙ c .if3 .taken)
 
 returns-4 : tie.Need-returns-4
 unfolding recordNumber
 returns-4 c =
     let e3 = c .before .before in
     let e2 = e3 .before .before in
-    rw (le-ltb _ _ (e2 .before .before .if1 .left), sym (e2 .before .outside .ensures) ∙ e2 .if2 .left, sym (e3 .before .unused-set .ensures) ∙ e3 .if3 .left, ne-eqb _ _ (c .if4 .taken))
+    rw (le-ltb 4 _ (e2 .before .before .if1 .left), sym (e2 .before .outside .ensures) ∙ e2 .if2 .left, sym (e3 .before .unused-set .ensures) ∙ e3 .if3 .left, ne-eqb _ 0 (c .if4 .taken))
 
 returns-5 : tie.Need-returns-5
 unfolding recordNumber
 returns-5 c =
     let e3 = c .before .before in
     let e2 = e3 .before .before in
-    rw (le-ltb _ _ (e2 .before .before .if1 .left), sym (e2 .before .outside .ensures) ∙ e2 .if2 .left, sym (e3 .before .unused-set .ensures) ∙ e3 .if3 .left, eq-eqb _ _ (c .if4 .left))
+    rw (le-ltb 4 _ (e2 .before .before .if1 .left), sym (e2 .before .outside .ensures) ∙ e2 .if2 .left, sym (e3 .before .unused-set .ensures) ∙ e3 .if3 .left, eq-eqb _ 0 (c .if4 .left))
 
 pub record-number-spec : {M : Type 1} → statement M
 record-number-spec =

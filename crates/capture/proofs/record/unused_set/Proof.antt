@@ -1,9 +1,9 @@
 -- `record::unused_set` meets its contract: the station is looked at last, the other fields before it.
-use mathlib.Core.Path.{_≡_, refl, sym, _∙_}
-use mathlib.Core.Bool.{Bool, true, false, _&&_, _||_, not}
+use mathlib.Core.Path.{_≡_, sym, _∙_}
+use mathlib.Core.Bool.{Bool, true, false, _&&_, _||_, or-true, or-false, and-false}
 use Prim.Native.Nat.{ℕ, _≤_, _<_}
 use native.Mathlib.Omega.{arith}
-use lib.Dec.{ltb, eqb}
+use lib.Dec.{ltb}
 use borrow.Author.Needs.{needs}
 use borrow.Author.Tests.{lt-ltb, le-ltb}
 use Rattle.capture.proofs.record.unused_set.Statement.{statement}
@@ -15,27 +15,15 @@ all-used kind s q h = rw (le-ltb kind 3 (omega arith), le-ltb kind 4 h)
 
 -- no other kind uses those of a queue
 queue-field : (kind : ℕ) (s : Bool) (q : Bool) → kind < 4 → q ≡ true → true ≡ ((ltb kind 3 && s) || (ltb kind 4 && q))
-queue-field kind s q h e = rw (lt-ltb kind 4 h, e) (go (ltb kind 3 && s))
-  where
-    go : (b : Bool) → true ≡ (b || true)
-    go true = refl
-    go false = refl
+queue-field kind s q h e = rw (lt-ltb kind 4 h, e) (sym (or-true (ltb kind 3 && s)))
 
 -- a timer uses the station
 station-used : (kind : ℕ) (s q : Bool) → 3 ≤ kind → q ≡ false → false ≡ ((ltb kind 3 && s) || (ltb kind 4 && q))
-station-used kind s q h e = rw (le-ltb kind 3 h, e) (go (ltb kind 4))
-  where
-    go : (b : Bool) → false ≡ (b && false)
-    go true = refl
-    go false = refl
+station-used kind s q h e = rw (le-ltb kind 3 h, e) (sym (and-false (ltb kind 4)))
 
 -- a frame does not
 station-unused : (kind : ℕ) (s q : Bool) → kind < 3 → q ≡ false → s ≡ ((ltb kind 3 && s) || (ltb kind 4 && q))
-station-unused kind s q h e = rw (lt-ltb kind 3 h, lt-ltb kind 4 (omega arith), e) (go s)
-  where
-    go : (b : Bool) → b ≡ (b || false)
-    go true = refl
-    go false = refl
+station-unused kind s q h e = rw (lt-ltb kind 3 h, lt-ltb kind 4 (omega arith), e) (sym (or-false s))
 
 returns : tie.Need-returns
 returns c = all-used _ _ _ (c .if1 .taken)
