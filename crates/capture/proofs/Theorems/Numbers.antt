@@ -1,11 +1,13 @@
 -- The numbers that reading gives, and that a capture which passes the first is cut in whole records. Assumes nothing.
-use mathlib.Core.Path.{_≡_, refl, sym, _∙_}
+use mathlib.Core.Path.{_≡_, refl, sym, ap, _∙_}
 use mathlib.Core.Bool.{Bool, true, false, cond}
 use mathlib.Core.List.{List, [], _∷_}
-use Prim.Native.Nat.{ℕ, _%_, _≤_}
+use Prim.Native.Nat.{ℕ, _%_, _<_, _≤_}
 use native.Mathlib.Omega.{arith}
-use borrow.Author.Tests.{ltb-false, eqb-true, not-false}
-use lib.ListN.{length}
+use borrow.Author.Tests.{ltb-false, leb-true, leb-false, eqb-true, not-false}
+use lib.Dec.{leb}
+use lib.ListN.{length, take}
+use lib.Seq.{take-all, length-take-le}
 use Rattle.codec.specs.Order.{firstOf}
 use Rattle.codec.proofs.Laws.Order.{none-holds}
 use Rattle.capture.specs.Record.{recordLength, mostOctets, captureTests, captureNumber, fieldsAt, recordTests, recordNumber, readRecord}
@@ -42,3 +44,22 @@ capture-passes s e =
 -- so from record to record the end comes only where the octets end
 pub end-at-end : (n : ℕ) (s : List ℕ) (at : ℕ) → captureNumber s ≡ 0 → at % recordLength ≡ 0 → readRecord n s at ≡ End → length s ≤ at
 end-at-end n s at e whole q = omega (arith, ended n s at q, capture-passes s e .0, whole)
+
+-- a capture that is too long shows it in its first octets: however many are taken, if they are too many
+pub too-long : (s : List ℕ) → mostOctets < length s → captureNumber s ≡ 24
+unfolding captureNumber
+too-long s h = one-answer 24 (captureTests s) (refl, (refl, tt)) (λ z. omega (arith, h, capture-passes s z .1))
+
+pub start-enough : (s : List ℕ) (m : ℕ) → mostOctets < m → captureNumber (take m s) ≡ captureNumber s
+start-enough s m h = go (leb (length s) m) refl
+  where
+    go : (b : Bool) → leb (length s) m ≡ b → captureNumber (take m s) ≡ captureNumber s
+    go true e = ap captureNumber (take-all m s (leb-true _ _ e))
+    go false e =
+        let more : m < length s = leb-false _ _ e in
+        let long : length (take m s) ≡ m = length-take-le m s (omega arith) in
+        too-long (take m s) (rw long h) ∙ sym (too-long s (omega arith))
+
+-- and one that passes is taken whole
+pub taken-whole : (s : List ℕ) (m : ℕ) → mostOctets < m → captureNumber s ≡ 0 → take m s ≡ s
+taken-whole s m h e = take-all m s (omega (arith, h, capture-passes s e .1))
