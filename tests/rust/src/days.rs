@@ -70,6 +70,36 @@ pub fn longest(random: &mut Random, lossy: bool) -> Made {
     Made { ring: written(&ring), capture }
 }
 
+/// Days that chance may leave out: every bit of a record of each kind turned, on rings of three sizes; lengths around those that
+/// are allowed; and the longest captures.
+pub fn edges(random: &mut Random) -> Vec<Made> {
+    let mut made = Vec::new();
+    for members in [2, 33, 64] {
+        let ring = written(&Ring { retry_limit: 1, addresses: (1..=members).collect() });
+        let queue = Event::Queue { station: 0, destination: 1, priority: 9, channel: 3, length: 7 };
+        let timer = Event::Timer { station: 1 };
+        for event in [Event::Delivered, Event::LostForAddressee, Event::LostForAll, timer, queue] {
+            for bit in 0..8 * capture::RECORD {
+                let mut capture = capture::capture(&[Event::Delivered, event, Event::Delivered]);
+                capture[capture::RECORD + bit / 8] ^= 0x80 >> (bit % 8);
+                made.push(Made { ring: ring.clone(), capture });
+            }
+        }
+        for length in
+            [0, 1, 2, 3, 4, 5, 6, 9, 10, 11, 59_995, 59_999, 60_000, 60_001, 60_005, 120_000]
+        {
+            made.push(Made { ring: ring.clone(), capture: vec![0; length] });
+        }
+    }
+    for lossy in [false, true] {
+        made.push(longest(random, lossy));
+        let Made { ring, mut capture } = longest(random, lossy);
+        capture.extend(Event::Delivered.octets());
+        made.push(Made { ring, capture });
+    }
+    made
+}
+
 fn good_ring(random: &mut Random) -> Ring {
     let members = match random.below(10) {
         0 => 2,

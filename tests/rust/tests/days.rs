@@ -1,7 +1,7 @@
 //! The model's recorded day: held to its fault-free ring where nothing is lost and no timer runs, to cases done by hand, to
 //! what request CR 1 says of every day, and to the yardstick's day.
 
-use rtep::days::{day, longest, Made, Seen};
+use rtep::days::{day, edges, longest, Made, Seen};
 use rtep::model::capture::{self, capture, Event};
 use rtep::model::day::{printed, run, Day, Line, MOST_FRAMES};
 use rtep::model::ring::Ring as Bench;
@@ -265,6 +265,9 @@ fn yardstick(made: &Made) -> Vec<u8> {
 #[test]
 fn random_days_hold_to_the_request_and_to_the_yardstick() {
     let mut random = Random::new(SEED);
+    for made in edges(&mut random) {
+        assert!(printed(&made.ring, &made.capture).as_bytes() == yardstick(&made));
+    }
     let mut seen = Seen::default();
     for index in 0..DAYS {
         let made = day(&mut random);
