@@ -15,7 +15,7 @@ pub packed-number : (r : List ℕ) → Octets r → recordLength ≤ length r �
 unfolding packed fieldsOf
 packed-number r o h =
     sym
-    (sym (bits-octets r 0 5 o h)
+    (sym (bits-octets r 0 recordLength o h)
     ∙ bits-join r 0 37 3
     ∙ ap (λ (k : ℕ). k * 2 ^ 3 + bits r 37 3)
     (bits-join r 0 26 11
