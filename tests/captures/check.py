@@ -3,6 +3,7 @@
     check.py scripts FOLDER    the bench's scripts that a capture can say, as captures, with what the bench prints of them
     check.py tool FOLDER       tools/capture beside the model, on the random days of FOLDER/random, and both ways
     check.py picture FOLDER    tools/picture on what the program prints
+    check.py page FOLDER       what docs/CAPTURES.md shows of the examples
 """
 import importlib.machinery
 import importlib.util
@@ -192,4 +193,17 @@ def picture(folder):
     print(f"captures: tools/picture draws the page as it is kept, and {len(names)} recorded days with their strikes, stops and ends")
 
 
-{"scripts": scripts, "tool": capture_tool, "picture": picture}[sys.argv[1]](pathlib.Path(sys.argv[2]))
+# ---- docs/CAPTURES.md
+
+
+def page(folder):
+    """Each block of lines on the page stands so in what an example prints."""
+    kept = [path.read_text() for path in ROOT.glob("examples/captures/*.expected")]
+    fenced = re.findall(r"^```(\w*)\n(.*?)^```$", (ROOT / "docs/CAPTURES.md").read_text(), re.M | re.S)
+    blocks = [block for language, block in fenced if not language]
+    assert len(blocks) >= 3, blocks
+    for block in blocks:
+        assert any(block in text for text in kept), block
+
+
+{"scripts": scripts, "tool": capture_tool, "picture": picture, "page": page}[sys.argv[1]](pathlib.Path(sys.argv[2]))
