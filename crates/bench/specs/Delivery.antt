@@ -50,6 +50,11 @@ others from p = not (eqb p from)
 abbrev pub bystanders : ℕ → ℕ → ℕ → Bool
 bystanders from to p = not (eqb p from) && not (eqb p to)
 
+-- by whether it is lost for its addressee
+abbrev pub hearing : Bool → ℕ → ℕ → ℕ → Bool
+hearing false from to = others from
+hearing true from to = bystanders from to
+
 abbrev pub deliver : Bench → Frame → ℕ → Bench
 deliver b f to = deliverTo (others (b .wire .from)) b f to
 
