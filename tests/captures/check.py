@@ -5,6 +5,7 @@
     check.py picture FOLDER    tools/picture on what the program prints
     check.py page FOLDER       what docs/CAPTURES.md shows of the examples
 """
+import functools
 import importlib.machinery
 import importlib.util
 import pathlib
@@ -127,6 +128,9 @@ def text_of(choose):
 
 def capture_tool(folder):
     capture, ring, choose = tool("capture"), tool("ring"), random.Random(SEED)
+    # Most records come again and again.
+    for name in ("fault", "words"):
+        setattr(capture, name, functools.cache(getattr(capture, name)))
     counts = {}
     for path in sorted((folder / "random").glob("*.capture")):
         number = beside_model(capture, ring, path)
