@@ -1,0 +1,8 @@
+-- Laws that the theorems use, one idea a file.
+pub mod Turning
+pub mod Placed
+pub mod Handing
+pub mod WholeRecords
+pub mod Beginning
+pub mod Striking
+pub mod LiveRecords

@@ -1,0 +1,5 @@
+-- One file a theorem.
+pub mod LinesPrinted
+pub mod StaysWhole
+pub mod OneAnswers
+pub mod LiveAtEnd

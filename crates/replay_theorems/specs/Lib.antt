@@ -1,0 +1,4 @@
+pub mod Lines
+pub mod WholeDay
+pub mod OneAnswers
+pub mod Strikes
