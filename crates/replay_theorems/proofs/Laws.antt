@@ -6,3 +6,6 @@ pub mod WholeRecords
 pub mod Beginning
 pub mod Striking
 pub mod LiveRecords
+pub mod Reading
+pub mod OnBench
+pub mod SameRun

@@ -3,3 +3,7 @@ pub mod LinesPrinted
 pub mod StaysWhole
 pub mod OneAnswers
 pub mod LiveAtEnd
+pub mod StopsBefore
+pub mod FaultFree
+pub mod BoundHolds
+pub mod EveryCapture

@@ -1,13 +1,12 @@
 -- A day begins whole. Assumes nothing.
 use mathlib.Core.Path.{_≡_, refl, sym, ap, subst, _∙_}
-use mathlib.Core.List.{List, [], _∷_, List·Memᴰ, List·Memᴰ·eq-of-singleton}
+use mathlib.Core.List.{[], _∷_, List·Memᴰ, List·Memᴰ·eq-of-singleton}
 use Prim.Native.Nat.{ℕ, zero, suc, _<_, _≤_}
 use native.Mathlib.Omega.{arith}
 use lib.ListN.{length, getD, replicate}
 use lib.Seq.{getD-set-other}
 use Rattle.parts.specs.Live.{seats}
-use Rattle.parts.specs.declared.frame.Dispatch.{Dispatch}
-use Rattle.parts.specs.declared.frame.Dispatch.the-variants.{Sent}
+use Rattle.station.specs.declared.station.Station.{Station}
 use Rattle.bench.specs.Ring.{nobody, stationAt, firstAnswer, startAt, startDown, emptyBench, ringWith}
 use Rattle.bench.specs.declared.ring.Bench.{Bench}
 use Rattle.bench_theorems.specs.Quiet.{Member, Quiet}
@@ -15,7 +14,7 @@ use Rattle.bench_theorems.proofs.Laws.FullSet.{seats-most}
 use Rattle.bench_theorems.proofs.Laws.Beginning.{ring-n}
 use Rattle.bench_theorems.proofs.Laws.Ringing.{quiet-start}
 use Rattle.replay.specs.declared.wire.Flying.{Flying}
-use Rattle.replay.specs.Day.{Day, memberAt, joining, begunBy, startDay}
+use Rattle.replay.specs.Day.{memberAt, joining, begunBy, startDay}
 use Rattle.replay_theorems.specs.WholeDay.{MemberOf, Proper, WholeDay}
 
 -- ---- past the ring nobody starts
@@ -42,7 +41,7 @@ pub wire-begun : (b : Bench) {limit : ℕ} (q : Quiet limit b) → begunBy b .wi
 unfolding joining
 wire-begun b q = ap (joining (b .wire .from)) (q .on-wire)
 
-member-of : {n limit p : ℕ} {s : Rattle.station.specs.declared.station.Station.Station} → Member n limit p s → MemberOf n limit p s
+member-of : {n limit p : ℕ} {s : Station} → Member n limit p s → MemberOf n limit p s
 member-of m = record { same-n = m .same-n; same-limit = m .same-limit; own = m .own; whole = m .whole }
 
 module _ (n limit : ℕ) (b : Bench) (q : Quiet limit b) (size : b .n ≡ n) where

@@ -1,14 +1,13 @@
 -- Laws of a day's calls, member by member. Assumes nothing.
 use mathlib.Core.Path.{_≡_, refl, sym, ap, subst, _∙_}
-use mathlib.Core.Bool.{Bool, true, false}
-use mathlib.Core.List.{List, [], _∷_, _++_, List·Memᴰ, List·Memᴰ·not-nil, List·Memᴰ·eq-of-singleton}
+use mathlib.Core.Bool.{Bool, true}
+use mathlib.Core.List.{List, [], _++_, List·Memᴰ, List·Memᴰ·not-nil, List·Memᴰ·eq-of-singleton}
 use Prim.Native.Nat.{ℕ, _<_, _≤_}
 use native.Mathlib.Nat.{zero-add}
 use native.Mathlib.Omega.{arith}
-use lib.ListN.{length, set, length-set}
+use lib.ListN.{length, length-set}
 use lib.Seq.{getD-set-same, getD-set-other}
 use borrow.Author.Tests.{ltb-true, eqb-false, not-true}
-use Rattle.parts.specs.Choose.{pick}
 use Rattle.parts.specs.Frames.{fit}
 use Rattle.station.specs.Stations.{stateOf, awaitedOf, answered}
 use Rattle.station.specs.Heard.{frameRule}
@@ -24,13 +23,13 @@ use Rattle.station_theorems.proofs.Laws.Sound.{whole-sound}
 use Rattle.station_theorems.proofs.Laws.Small.{pick-keeps}
 use Rattle.station_theorems.proofs.Theorems.FrameWhole.{frame-keeps-whole}
 use Rattle.bench.specs.Ring.{nobody}
-use Rattle.bench.specs.Delivery.{handed, delivered}
-use Rattle.bench.proofs.Laws.Delivered.{delivered-length, delivered-at, handed-outside}
+use Rattle.bench.specs.Delivery.{handed}
+use Rattle.bench.proofs.Laws.Delivered.{delivered-length, delivered-at}
 use Rattle.replay.specs.declared.wire.Flying.{Flying}
 use Rattle.replay.specs.Day.{Day, memberAt, joining}
 use Rattle.replay.specs.Records.{answerOf, replyTo, afterFrame, afterCall}
 use Rattle.replay_theorems.specs.WholeDay.{MemberOf, Proper}
-use Rattle.replay_theorems.proofs.Laws.Placed.{Placed, placed-answered, frame-placed, not-sent}
+use Rattle.replay_theorems.proofs.Laws.Placed.{Placed, placed-answered, frame-placed}
 
 -- ---- who is handed a frame answers by its rule, or nothing
 

@@ -15,7 +15,6 @@ use Rattle.station.specs.declared.station.Station.{Station}
 use Rattle.station.specs.declared.station.Answer.{Answer}
 use Rattle.station_theorems.proofs.Theorems.Striking.{timer-strikes}
 use Rattle.station_theorems.proofs.Theorems.NobodyStruck.{queue-strikes-nobody}
-use Rattle.bench.specs.Ring.{nobody}
 use Rattle.bench.specs.Rows.{rowOn}
 use Rattle.capture.specs.declared.record.Event.{Event}
 use Rattle.capture.specs.declared.record.Event.the-variants.{Delivered, LostForAddressee, LostForAll, Timer, Queue}

@@ -1,23 +1,20 @@
 -- Laws of a station's calls on a ring: it keeps its place, awaits what it sends, and sends nothing on a frame addressed elsewhere.
 -- Assumes nothing.
-use mathlib.Core.Path.{_≡_, refl, sym, ap, _∙_}
-use mathlib.Core.Bool.{Bool, true, not}
+use mathlib.Core.Path.{_≡_, refl, ap, _∙_}
+use mathlib.Core.Bool.{true, not}
 use Prim.Native.Nat.{ℕ}
 use native.Mathlib.Omega.{arith}
 use lib.Dec.{ltb, leb, eqb}
 use borrow.Author.Tests.{ne-eqb}
-use Rattle.parts.specs.Choose.{pick}
-use Rattle.parts.specs.Moves.{moveOf, runs}
 use Rattle.parts.specs.Frames.{numberOf, failingOf, flight}
 use Rattle.station.specs.Strike.{Loss, Struck, strike, nothingGone, giveUpTo, giveUpAt, giveUpFlight, messageAt, stopped}
-use Rattle.station.specs.Stations.{stateOf, awaitedOf, alone, answered, moved, unless}
+use Rattle.station.specs.Stations.{awaitedOf, alone, answered, moved, unless}
 use Rattle.plain_rules.specs.Heard.{newly}
 use Rattle.station.specs.Heard.{Stored, acknowledged, landed, acknowledge, strikeOther, strikeHeard, failed, nothingMore, receive, stored, handle, respond, heard, frameRule}
 use Rattle.station.specs.Timer.{unanswered, afterStrike, silence, onTimer, timerRule}
 use Rattle.station.specs.Queue.{accepted, queueRule}
 use Rattle.parts.specs.declared.moves.Event.{Event}
 use Rattle.parts.specs.declared.moves.State.{State}
-use Rattle.parts.specs.declared.list.Message.{Message}
 use Rattle.parts.specs.declared.frame.Whom.{Whom}
 use Rattle.parts.specs.declared.frame.Whom.the-variants.{Nobody, Member}
 use Rattle.parts.specs.declared.frame.Frame.{Frame}

@@ -14,7 +14,6 @@ use Rattle.parts.specs.declared.live.Live.{Live}
 use Rattle.parts.specs.declared.frame.Whom.{Whom}
 use Rattle.parts.specs.declared.frame.Whom.the-variants.{Nobody, Member}
 use Rattle.parts.specs.declared.frame.Frame.{Frame}
-use Rattle.station.specs.Stations.{answered}
 use Rattle.station.specs.Heard.{frameRule}
 use Rattle.station.specs.declared.station.Station.{Station}
 use Rattle.station.specs.declared.station.Answer.{Answer}

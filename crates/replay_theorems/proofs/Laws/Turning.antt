@@ -1,18 +1,17 @@
 -- Laws of a turn: a record goes on, is refused, or leaves a stopped run as it is. Assumes nothing.
 use mathlib.Core.Path.{_≡_, refl, sym, ap, subst, _∙_}
 use mathlib.Core.Bool.{Bool, true, false}
-use mathlib.Core.List.{List, [], _∷_, _++_}
+use mathlib.Core.List.{List, [], _∷_}
 use Prim.Native.Nat.{ℕ}
 use lib.Dec.{eqb}
 use borrow.Author.Tests.{eqb-true, eqb-false}
-use Rattle.parts.specs.Choose.{pick}
 use Rattle.parts.proofs.Laws.Choose.{pick-true, pick-false}
 use Rattle.capture.specs.declared.record.Event.{Event}
 use Rattle.replay.specs.Day.{Day}
 use Rattle.replay.specs.Records.{afterRecord, eventNumber}
-use Rattle.replay.specs.Printed.{recordText, stoppedText}
-use Rattle.replay.specs.Runs.{Record, good, bad, Course, stopped, wentOn, recordNumber, effect, effectText, turn, turnText, gone, goneText}
-use Rattle.replay_theorems.specs.Lines.{Line, stopped as stopLine, recordLines, effectLines, turnLines, runLines}
+use Rattle.replay.specs.Printed.{stoppedText}
+use Rattle.replay.specs.Runs.{Record, good, bad, Course, stopped, recordNumber, effect, effectText, turn, turnText, gone}
+use Rattle.replay_theorems.specs.Lines.{Line, stopped as stopLine, effectLines, turnLines}
 
 -- what one turn does, prints, and prints line by line
 pub record Turned (c : Course) (r : Record) (next : Course) (text : List ℕ) (lines : List Line) : Type 0 where

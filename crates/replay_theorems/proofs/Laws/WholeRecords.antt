@@ -3,13 +3,13 @@ use mathlib.Core.Path.{_≡_, refl, sym, ap, subst, _∙_}
 use mathlib.Core.Bool.{Bool, true, false, _&&_}
 use mathlib.Core.List.{List, [], _∷_, _++_, List·Memᴰ, List·Memᴰ·head, List·Memᴰ·tail, List·Memᴰ·not-nil, List·Memᴰ·append-cases}
 use mathlib.Core.Logic.{_⊎_, inl, inr}
-use Prim.Native.Nat.{ℕ, _+_, _<_, _≤_}
+use Prim.Native.Nat.{ℕ, _<_, _≤_}
 use native.Mathlib.Omega.{arith}
 use lib.Dec.{eqb, leb, ltb}
 use lib.ListN.{length, length-append, List·getD-eq-default}
 use borrow.Author.Tests.{ltb-true, ltb-false, eqb-true, eqb-false, leb-false}
 use Rattle.parts.specs.Choose.{pick}
-use Rattle.station.specs.Stations.{answered, moved}
+use Rattle.station.specs.Stations.{moved}
 use Rattle.station.specs.Queue.{queueRule}
 use Rattle.station.specs.Timer.{timerRule}
 use Rattle.parts.specs.declared.frame.Dispatch.{Dispatch}
@@ -27,7 +27,7 @@ use Rattle.capture.specs.declared.record.Event.{Event}
 use Rattle.capture.specs.declared.record.Event.the-variants.{Delivered, LostForAddressee, LostForAll, Timer, Queue}
 use Rattle.replay.specs.declared.wire.Flying.{Flying}
 use Rattle.replay.specs.Day.{Day, mostFrames, memberAt, joining}
-use Rattle.replay.specs.Records.{hearers, answerOf, replyTo, afterFrame, takeFrame, afterCall, timerAnswer, afterRecord, overfills, eventNumber}
+use Rattle.replay.specs.Records.{hearers, answerOf, replyTo, afterFrame, takeFrame, afterCall, timerAnswer, afterRecord, eventNumber}
 use Rattle.replay_theorems.specs.WholeDay.{MemberOf, Proper, WholeDay}
 use Rattle.replay_theorems.proofs.Laws.Placed.{Placed, timer-placed, queue-placed, queue-silent}
 use Rattle.replay_theorems.proofs.Laws.Handing.{frame-length, frame-at, frame-wire, call-length, call-here, call-other, call-wire, member-after, member-handed, joining-proper, joining-few, none-joins}

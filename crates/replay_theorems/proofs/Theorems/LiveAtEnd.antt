@@ -1,22 +1,20 @@
 -- A station's live set at the end is all members without those that are printed as struck by it. Assumes nothing.
-use mathlib.Core.Path.{_≡_, refl, sym, ap, subst, _∙_}
-use mathlib.Core.Bool.{Bool, true, false, not, _&&_, _||_, false≢true}
-use mathlib.Core.List.{List, [], _∷_, _++_}
+use mathlib.Core.Path.{_≡_, refl, sym, ap, _∙_}
+use mathlib.Core.Bool.{Bool, true, false, not, _&&_}
+use mathlib.Core.List.{List, [], _∷_}
 use Prim.Native.Nat.{ℕ, _<_, _≤_}
 use native.Mathlib.Omega.{arith}
 use lib.Dec.{ltb}
-use borrow.Author.Tests.{ltb-true, ltb-false, lt-ltb, le-ltb}
+use borrow.Author.Tests.{ltb-true, ltb-false}
 use Rattle.parts.specs.Live.{liveAt, full}
 use Rattle.station.specs.declared.station.Station.{Station}
 use Rattle.station_theorems.proofs.Theorems.Whole.{whole-is}
-use Rattle.bench.specs.Ring.{ringWith}
 use Rattle.bench_theorems.proofs.Laws.Beginning.{ring-n}
 use Rattle.bench_theorems.proofs.Laws.FullSet.{full-live}
 use Rattle.bench_theorems.proofs.Laws.Ringing.{quiet-start}
 use Rattle.replay.specs.Day.{Day, memberAt, startDay}
-use Rattle.replay.specs.Records.{eventNumber}
 use Rattle.replay.specs.Runs.{Record, good, bad, Course, recordNumber, effect, turn, gone, begun}
-use Rattle.replay_theorems.specs.Lines.{Line, stopped, effectLines, turnLines, runLines}
+use Rattle.replay_theorems.specs.Lines.{Line, effectLines, turnLines, runLines}
 use Rattle.replay_theorems.specs.Strikes.{struckBy}
 use Rattle.replay_theorems.specs.WholeDay.{MemberOf, WholeDay}
 use Rattle.replay_theorems.proofs.Laws.Turning.{Turned, Turns, over, stops, goes, turns, turn-keeps}

@@ -1,9 +1,9 @@
 -- A frame record takes the oldest frame, and does nothing with none. Only the addressee answers the frame: whoever else hears it sends
 -- nothing; so a frame record takes one frame and adds at most one. Assumes nothing.
-use mathlib.Core.Path.{_≡_, refl, sym, ap, subst, _∙_}
+use mathlib.Core.Path.{_≡_, refl, sym, ap, _∙_}
 use mathlib.Core.Bool.{Bool, true, false, false≢true}
 use mathlib.Core.List.{List, [], _∷_}
-use Prim.Native.Nat.{ℕ, _<_, _≤_}
+use Prim.Native.Nat.{ℕ, _≤_}
 use native.Mathlib.Omega.{arith}
 use lib.Dec.{ltb}
 use lib.ListN.{length}
@@ -18,7 +18,7 @@ use Rattle.replay.specs.Day.{Day, mostFrames, memberAt, startDay}
 use Rattle.replay.specs.Records.{hearers, answerOf, replyTo, afterFrame, takeFrame, afterRecord}
 use Rattle.replay.specs.Runs.{Record, gone, begun}
 use Rattle.replay_theorems.specs.WholeDay.{WholeDay}
-use Rattle.replay_theorems.specs.OneAnswers.{isFrame, TakesOldest, FrameRecord}
+use Rattle.replay_theorems.specs.OneAnswers.{isFrame, FrameRecord}
 use Rattle.replay_theorems.proofs.Laws.Placed.{frame-silent}
 use Rattle.replay_theorems.proofs.Laws.Handing.{handed-keeps, frame-at, frame-wire, joining-few}
 use Rattle.replay_theorems.proofs.Theorems.StaysWhole.{stays-whole}

@@ -2,8 +2,8 @@
 -- whenever timers run. Assumes nothing.
 use mathlib.Core.List.{List}
 use Prim.Native.Nat.{ℕ, _≤_}
-use Rattle.replay.specs.Day.{Day, startDay}
-use Rattle.replay.specs.Runs.{Record, Course, gone, begun}
+use Rattle.replay.specs.Day.{startDay}
+use Rattle.replay.specs.Runs.{Record, gone, begun}
 use Rattle.replay_theorems.specs.WholeDay.{WholeDay}
 use Rattle.replay_theorems.proofs.Laws.Turning.{run-keeps}
 use Rattle.replay_theorems.proofs.Laws.WholeRecords.{record-whole}
