@@ -7,3 +7,4 @@ pub mod StopsBefore
 pub mod FaultFree
 pub mod BoundHolds
 pub mod EveryCapture
+pub mod Refused

@@ -6,3 +6,4 @@ pub mod Read
 pub mod Stops
 pub mod FaultFree
 pub mod EveryCapture
+pub mod Refused
