@@ -32,7 +32,7 @@ use Rattle.bench.proofs.Laws.Steps.{steps-one, text-one, steps-size}
 use Rattle.bench.proofs.Laws.Going.{UnderWay, ranOf, going-none, going-room, going-on, going-all, going-silent}
 
 abbrev pub handingWith : ℕ → ℕ → Frame → Bool → ℕ → ℕ → Handing
-handingWith n m frame quiet from to = record { n = n; m = m; frame = frame; quiet = quiet; from = from; to = to }
+handingWith n m frame quiet from to = record { n = n; m = m; frame = frame; quiet = quiet; from = from; to = to; lost = false }
 
 abbrev pub wireOf : ℕ → Dispatch → Wire
 wireOf from sent = record { from = from; sent = sent }

@@ -1,0 +1,1 @@
+-- The laws of the recorded day that belong to no one function.

@@ -1,0 +1,4 @@
+pub mod Day
+pub mod Records
+pub mod Printed
+pub mod Runs

@@ -1,0 +1,10 @@
+-- One file a theorem.
+pub mod LinesPrinted
+pub mod StaysWhole
+pub mod OneAnswers
+pub mod LiveAtEnd
+pub mod StopsBefore
+pub mod FaultFree
+pub mod BoundHolds
+pub mod EveryCapture
+pub mod Refused
