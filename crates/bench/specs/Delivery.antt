@@ -58,6 +58,10 @@ hearing true from to = bystanders from to
 abbrev pub deliver : Bench → Frame → ℕ → Bench
 deliver b f to = deliverTo (others (b .wire .from)) b f to
 
+abbrev pub isSent : Dispatch → Bool
+isSent Nothing = false
+isSent (Sent frame to) = true
+
 -- with no frame on the wire a step does nothing
 unfoldable pub stepOn : Bench → Dispatch → Bench
 stepOn b Nothing = b

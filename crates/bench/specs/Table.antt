@@ -16,7 +16,7 @@ use Rattle.station.specs.Queue.{queueRule}
 use Rattle.station.specs.declared.station.Answer.{Answer}
 use Rattle.station.specs.declared.station.Station.{Station}
 use Rattle.bench.specs.Ring.{nobody}
-use Rattle.bench.specs.Delivery.{hearing, isQuiet, standsBy, steps}
+use Rattle.bench.specs.Delivery.{isSent, hearing, isQuiet, standsBy, steps}
 use Rattle.bench.specs.Rows.{rowsOn}
 use Rattle.bench.specs.Text.{rowsText}
 use Rattle.bench.specs.Running.{stepsText}
@@ -60,10 +60,6 @@ handingBy g (Sent frame to) =
 -- what is handed round in the next step
 abbrev pub handingOf : Going → Handing
 handingOf g = handingBy g (g .wire .sent)
-
-abbrev pub isSent : Dispatch → Bool
-isSent Nothing = false
-isSent (Sent frame to) = true
 
 -- whether there is a next step
 abbrev pub goesOn : Going → Bool

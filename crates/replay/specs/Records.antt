@@ -11,7 +11,7 @@ use Rattle.parts.specs.declared.frame.Dispatch.{Dispatch}
 use Rattle.station.specs.declared.station.Station.{Station}
 use Rattle.station.specs.declared.station.Answer.{Answer}
 use Rattle.bench.specs.Delivery.{handed, delivered, others, bystanders}
-use Rattle.bench.specs.Table.{isSent}
+use Rattle.bench.specs.Delivery.{isSent}
 use Rattle.capture.specs.declared.record.Event.{Event}
 use Rattle.capture.specs.declared.record.Event.the-variants.{Delivered, LostForAddressee, LostForAll, Timer, Queue}
 use Rattle.replay.specs.Day.{Day, mostFrames, memberAt, joining}

@@ -21,7 +21,7 @@ use Rattle.station_theorems.specs.Shaped.{WholeStation}
 use Rattle.station_theorems.proofs.Theorems.Reached.{calls-keep-whole}
 use Rattle.bench.specs.Ring.{nobody}
 use Rattle.bench.specs.Bystander.{Untouched}
-use Rattle.bench.specs.Table.{isSent}
+use Rattle.bench.specs.Delivery.{isSent}
 use Rattle.bench.proofs.Laws.Delivered.{handed-outside}
 use Rattle.capture.specs.declared.record.Event.{Event}
 use Rattle.capture.specs.declared.record.Event.the-variants.{Delivered, LostForAddressee, LostForAll, Timer, Queue}

@@ -17,7 +17,7 @@ use Rattle.station_theorems.specs.Refusals.{NothingDone, Refuses}
 use Rattle.station_theorems.proofs.Theorems.Refusals.{number-alone, frame-refuses, timer-refuses, queue-refuses}
 use Rattle.bench.specs.Ring.{nobody}
 use Rattle.bench.specs.Rows.{rowOn}
-use Rattle.bench.specs.Table.{isSent}
+use Rattle.bench.specs.Delivery.{isSent}
 use Rattle.bench.specs.Text.{rowsText}
 use Rattle.capture.specs.declared.record.Event.the-variants.{Timer, Queue}
 use Rattle.replay.specs.declared.wire.Flying.{Flying}
