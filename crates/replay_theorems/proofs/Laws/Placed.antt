@@ -9,7 +9,7 @@ use borrow.Author.Tests.{ne-eqb}
 use Rattle.parts.specs.Frames.{numberOf, failingOf, flight}
 use Rattle.station.specs.Strike.{Loss, Struck, strike, nothingGone, giveUpTo, giveUpAt, giveUpFlight, messageAt, stopped}
 use Rattle.station.specs.Stations.{awaitedOf, alone, answered, moved, unless}
-use Rattle.parts.specs.Heard.{newly}
+use Rattle.parts.specs.Live.{newly}
 use Rattle.station.specs.Heard.{Stored, acknowledged, landed, acknowledge, strikeOther, strikeHeard, failed, nothingMore, receive, stored, handle, respond, heard, frameRule}
 use Rattle.station.specs.Timer.{unanswered, afterStrike, silence, onTimer, timerRule}
 use Rattle.station.specs.Queue.{accepted, queueRule}
