@@ -24,6 +24,7 @@ use Rattle.parts.specs.declared.frame.Frame.{Frame}
 use Rattle.parts.specs.declared.frame.Frame.the-variants.{Token, Transmit, Information}
 use Rattle.parts.specs.declared.frame.Dispatch.{Dispatch}
 use Rattle.parts.specs.declared.frame.Dispatch.the-variants.{Nothing, Sent}
+use Rattle.station.specs.declared.station.Turn.{Turn}
 use Rattle.station.specs.declared.station.Station.{Station}
 
 -- ---- its ring is good: N is 2 to 64, R is 1 to 15, this station is a member
@@ -134,6 +135,11 @@ awaitedGood st n own l Nothing = not (isWaiting st)
 awaitedGood st n own l (Sent frame to) =
     allOf (isWaiting st ∷ fit n frame ∷ ltb to n ∷ not (eqb to own) ∷ carried l frame to ∷ [])
 
+-- ---- the turn: the retry count is at most R
+
+abbrev pub turnFits : Turn → ℕ → Bool
+turnFits t limit = allOf (leb (t .retries) limit ∷ [])
+
 -- ---- all of it
 
 unfoldable pub whole : Station → Bool
@@ -144,6 +150,6 @@ whole s =
     ∷ companyGood (stateOf s) (alone s)
     ∷ listsGood s
     ∷ waitersGood (stateOf s) (s .live) (flight (awaitedOf s)) (all (s .sends))
-    ∷ leb (s .turn .retries) (s .limit)
+    ∷ turnFits (s .turn) (s .limit)
     ∷ awaitedGood (stateOf s) (s .n) (s .own) (s .sends) (awaitedOf s)
     ∷ [])

@@ -21,6 +21,7 @@ ghost use Rattle.wholeness.specs.Whole.{
   carried,
   awaitedGood,
   listsGood,
+  turnFits,
   whole,
 };
 use codec::sizes::INFORMATION;
@@ -35,6 +36,7 @@ use parts::list::Which;
 use parts::live::Live;
 use parts::moves::State;
 use station::station::Station;
+use station::station::Turn;
 
 pub fn ring_good(n: u8, limit: u8, own: u8) -> bool
     ensures { λ r. ⌜ r ≡ ringGood n limit own ⌝ }
@@ -296,6 +298,13 @@ pub fn lists_good(s: Station) -> bool
     list_good(s.n, s.own, s.receives)
 }
 
+// The turn: the retry count.
+pub fn turn_fits(t: Turn, limit: u8) -> bool
+    ensures { λ r. ⌜ r ≡ turnFits t limit ⌝ }
+{
+    t.retries <= limit
+}
+
 // Whether the station is one that the rules can come to. The slots behind its messages are blank by the way it is read.
 pub fn whole(s: Station) -> bool
     requires { ⌜ (restBlank (s .sends) ≡ true) × (restBlank (s .receives) ≡ true) ⌝ }
@@ -320,7 +329,7 @@ pub fn whole(s: Station) -> bool
     if !waiters_good(state, s.live, f, s.sends) {
         return false;
     }
-    if s.limit < turn.retries {
+    if !turn_fits(turn, s.limit) {
         return false;
     }
     awaited_good(state, s.n, s.own, s.sends, awaited)

@@ -4,7 +4,6 @@ use mathlib.Core.Bool.{Bool, true, false, not, false≢true, _||_}
 use mathlib.Core.List.{List}
 use Prim.Native.Nat.{ℕ, _<_}
 use native.Mathlib.Omega.{arith}
-use lib.Dec.{leb}
 use lib.ListN.{length}
 use borrow.Author.Tests.{leb-true, le-leb, ltb-true, lt-ltb, eqb-true}
 use Rattle.parts.specs.Choose.{every}
@@ -12,8 +11,8 @@ use Rattle.parts.specs.Moves.{moveOf, runs, isWaiting, isExcluded}
 use Rattle.parts.specs.Messages.{all, flies, best}
 use Rattle.parts.specs.Live.{liveAt}
 use Rattle.parts.specs.Frames.{noFlight, flight}
-use Rattle.station.specs.Stations.{stateOf, awaitedOf, alone, quiet, sending}
-use Rattle.wholeness.specs.Whole.{ringGood, ownSeat, otherSeat, companyGood, listGood, waitsWell, waitersGood, sameMessage, carried, awaitedGood}
+use Rattle.station.specs.Stations.{stateOf, awaitedOf, alone, quiet, sendingTurn, sending}
+use Rattle.wholeness.specs.Whole.{ringGood, ownSeat, otherSeat, companyGood, listGood, waitsWell, waitersGood, sameMessage, carried, awaitedGood, turnFits}
 use Rattle.parts.specs.declared.moves.State.{State}
 use Rattle.parts.specs.declared.moves.State.the-variants.{Idle, Waiting, Alone}
 use Rattle.parts.specs.declared.moves.Event.the-variants.{Heard}
@@ -34,7 +33,7 @@ use Rattle.station_theorems.proofs.Laws.States.{heard-cases}
 use Rattle.parts.proofs.Laws.Tests.{held, hold, each-weaker}
 use Rattle.station_theorems.proofs.Laws.Seats.{Seats, seated, seating}
 use Rattle.station_theorems.proofs.Theorems.Successor.{successor-is}
-use Rattle.station_theorems.proofs.Laws.Sound.{Sound}
+use Rattle.station_theorems.proofs.Laws.Sound.{Sound, turn-fits}
 
 -- ---- the ring
 
@@ -78,7 +77,7 @@ pub record Based (f : Flight) (s : Station) : Type 0 where
   pub receives : listGood (s .n) (s .own) (s .receives) ≡ true
   pub waits : every (waitsWell (s .live) f) (all (s .sends)) ≡ true
   pub flown : f .on ≡ true → best (HasPlace (f .place)) (s .sends) .some ≡ true
-  pub retries : leb (s .turn .retries) (s .limit) ≡ true
+  pub retries : turnFits (s .turn) (s .limit) ≡ true
 
 -- the message of an awaited information frame is there
 pub in-flight : (st : State) (n own : ℕ) (l : Messages) (d : Dispatch) → awaitedGood st n own l d ≡ true → flight d .on ≡ true
@@ -196,6 +195,6 @@ module _ (s : Station) (b : Based noFlight s) where
         waiters =
             pick-false _ _ refl
             ∙ each-weaker (waitsWell (s .live) noFlight) (waitsWell (s .live) (flight d)) (λ m e. flies-too (s .live) (flight d) m e) (all (s .sends)) (b .waits);
-        retries = le-leb 0 (s .limit) (omega arith);
+        retries = turn-fits (sendingTurn h d) (s .limit) (omega arith);
         awaited = g;
       }

@@ -1,16 +1,17 @@
 -- A whole station, part by part; and what comes before a call acts. Assumes nothing.
 use mathlib.Core.Path.{_≡_, refl}
 use mathlib.Core.Bool.{Bool, true, false}
-use Prim.Native.Nat.{ℕ}
-use lib.Dec.{eqb, leb}
-use borrow.Author.Tests.{eqb-true}
+use Prim.Native.Nat.{ℕ, _≤_}
+use lib.Dec.{eqb}
+use borrow.Author.Tests.{leb-true, le-leb, eqb-true}
 use Rattle.parts.specs.Choose.{pick}
 use Rattle.parts.specs.Moves.{moveOf, runs}
 use Rattle.parts.specs.Messages.{all}
 use Rattle.parts.specs.Frames.{flight}
 use Rattle.station.specs.Stations.{stateOf, awaitedOf, alone, answered, moved, unless}
-use Rattle.wholeness.specs.Whole.{ringGood, seatsGood, companyGood, listGood, listsGood, waitersGood, awaitedGood, whole}
+use Rattle.wholeness.specs.Whole.{ringGood, seatsGood, companyGood, listGood, listsGood, waitersGood, awaitedGood, turnFits, whole}
 use Rattle.parts.specs.declared.moves.Event.{Event}
+use Rattle.station.specs.declared.station.Turn.{Turn}
 use Rattle.station.specs.declared.station.Station.{Station}
 use Rattle.station.specs.declared.station.Answer.{Answer}
 use Rattle.parts.proofs.Laws.Tests.{held, hold}
@@ -25,7 +26,7 @@ pub record Sound (s : Station) : Type 0 where
   pub sends : listGood (s .n) (s .own) (s .sends) ≡ true
   pub receives : listGood (s .n) (s .own) (s .receives) ≡ true
   pub waiters : waitersGood (stateOf s) (s .live) (flight (awaitedOf s)) (all (s .sends)) ≡ true
-  pub retries : leb (s .turn .retries) (s .limit) ≡ true
+  pub retries : turnFits (s .turn) (s .limit) ≡ true
   pub awaited : awaitedGood (stateOf s) (s .n) (s .own) (s .sends) (awaitedOf s) ≡ true
 
 pub sound : (s : Station) → Shaped s → whole s ≡ true → Sound s
@@ -56,6 +57,14 @@ whole-sound s w = sound s (w .shaped) (w .is-whole)
 
 pub whole-station : (s : Station) → Sound s → WholeStation s
 whole-station s k = record { shaped = k .shaped; is-whole = sound-whole s k }
+
+-- ---- the turn
+
+pub turn-fits : (t : Turn) (limit : ℕ) → t .retries ≤ limit → turnFits t limit ≡ true
+turn-fits t limit h = hold _ (le-leb _ _ h, tt)
+
+pub retries-of : (t : Turn) (limit : ℕ) → turnFits t limit ≡ true → t .retries ≤ limit
+retries-of t limit e = leb-true _ _ (held _ e .0)
 
 -- ---- a call that is stopped or refused leaves the station as it is
 

@@ -11,7 +11,7 @@ use borrow.Author.Tests.{le-leb, lt-leb, leb-true, leb-false}
 use Rattle.parts.specs.Choose.{pick}
 use Rattle.parts.specs.Messages.{none, pack}
 use Rattle.parts.specs.Live.{full, seats}
-use Rattle.station.specs.Stations.{made}
+use Rattle.station.specs.Stations.{newTurn, made}
 use Rattle.wholeness.specs.Whole.{ownSeat, otherSeat, seatGood, seatsGood, companyGood, listGood, waitersGood, awaitedGood}
 use Rattle.parts.specs.declared.moves.State.the-variants.{Offline}
 use Rattle.parts.proofs.Laws.Choose.{pick-true, pick-false}
@@ -20,7 +20,7 @@ use Rattle.parts.proofs.Laws.Live.{seats-inside, seats-all, seats-most}
 use Rattle.station_theorems.specs.Shaped.{Shaped, WholeStation}
 use Rattle.station_theorems.proofs.Laws.Kept.{list-made, apart-end, pack-rest}
 use Rattle.station_theorems.proofs.Laws.Based.{ring-good}
-use Rattle.station_theorems.proofs.Laws.Sound.{Sound, whole-station}
+use Rattle.station_theorems.proofs.Laws.Sound.{Sound, whole-station, turn-fits}
 
 -- ---- the seats: the first n are live, the others are not
 
@@ -83,7 +83,7 @@ module _ (n limit own : ℕ) (low : 2 ≤ n) (high : n ≤ 64) where
         sends = made-list;
         receives = made-list;
         waiters = pick-false _ _ refl ∙ each-none _;
-        retries = le-leb 0 limit (omega arith);
+        retries = turn-fits newTurn limit (omega arith);
         awaited = refl;
       }
 

@@ -4,11 +4,11 @@ use mathlib.Core.Bool.{Bool, true, false}
 use Prim.Native.Nat.{ℕ, _+_, _<_}
 use native.Mathlib.Omega.{arith}
 use lib.Dec.{ltb}
-use borrow.Author.Tests.{ltb-true, le-leb, eqb-false, not-true}
+use borrow.Author.Tests.{ltb-true, eqb-false, not-true}
 use Rattle.parts.specs.Choose.{pick}
 use Rattle.parts.specs.Moves.{moveOf, runs}
 use Rattle.parts.specs.Frames.{noFlight, flight, fit}
-use Rattle.station.specs.Stations.{stateOf, awaitedOf, alone, quiet, counted}
+use Rattle.station.specs.Stations.{stateOf, awaitedOf, alone, quiet, moreTurn, counted}
 use Rattle.station.specs.Sight.{sight}
 use Rattle.station.specs.Strike.{Loss, Struck, strike, giveUpTo}
 use Rattle.station.specs.Timer.{again, leftAlone, goesOn, unanswered, afterStrike, silence, onTimer, timerRule}
@@ -27,7 +27,7 @@ use Rattle.parts.proofs.Laws.Tests.{held}
 use Rattle.station_theorems.proofs.Laws.Based.{ringed, Based, sound-based, quiet-alone, sends-off}
 use Rattle.station_theorems.proofs.Laws.Sending.{resend-proper}
 use Rattle.station_theorems.proofs.Laws.Struck.{struck-based, left-based, still-based, counted-based, flight-cases}
-use Rattle.station_theorems.proofs.Laws.Sound.{Sound, whole-sound, whole-station, moved-sound}
+use Rattle.station_theorems.proofs.Laws.Sound.{Sound, whole-sound, whole-station, moved-sound, turn-fits}
 
 -- ---- the same frame again
 
@@ -41,7 +41,7 @@ again-sound s k h =
       sends = k .sends;
       receives = k .receives;
       waiters = k .waiters;
-      retries = le-leb (s .turn .retries + 1) (s .limit) (omega arith);
+      retries = turn-fits (moreTurn (s .turn)) (s .limit) (omega arith);
       awaited = k .awaited;
     }
 

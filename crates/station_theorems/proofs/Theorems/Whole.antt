@@ -2,7 +2,7 @@
 use mathlib.Core.Path.{_≡_, refl, sym, ap, _∙_}
 use mathlib.Core.Bool.{Bool, true, false, false≢true, _||_}
 use mathlib.Core.List.{List, List·Memᴰ}
-use borrow.Author.Tests.{leb-true, le-leb, eqb-true, eq-eqb}
+use borrow.Author.Tests.{eqb-true, eq-eqb}
 use Rattle.parts.specs.Choose.{pick, every}
 use Rattle.parts.specs.Moves.{isExcluded}
 use Rattle.parts.specs.Messages.{all, flies}
@@ -25,7 +25,7 @@ use Rattle.station_theorems.proofs.Laws.States.{excluded-is}
 use Rattle.station_theorems.proofs.Laws.Kept.{list-apart}
 use Rattle.station_theorems.proofs.Laws.Members.{each-member, each-of}
 use Rattle.station_theorems.proofs.Laws.Based.{ringed, ring-good}
-use Rattle.station_theorems.proofs.Laws.Sound.{sound, sound-whole}
+use Rattle.station_theorems.proofs.Laws.Sound.{sound, sound-whole, turn-fits, retries-of}
 use Rattle.station_theorems.proofs.Theorems.LiveSet.{live-set, seats-live, company-good}
 use Rattle.station_theorems.proofs.Theorems.GoodList.{good-list, list-good}
 use Rattle.station_theorems.proofs.Theorems.Awaited.{awaited-is, is-awaited}
@@ -77,7 +77,7 @@ whole-is s h w =
       sends = good-list (s .n) (s .own) (s .sends) (h .sends) (k .sends);
       receives = good-list (s .n) (s .own) (s .receives) (h .receives) (k .receives);
       waiting-to-live = waiting-is (stateOf s) (s .live) (awaitedOf s) (all (s .sends)) (k .waiters);
-      retries-fit = leb-true _ _ (k .retries);
+      retries-fit = retries-of (s .turn) (s .limit) (k .retries);
       awaited = awaited-is (stateOf s) (s .n) (s .own) (s .sends) (awaitedOf s) (k .awaited);
     }
 
@@ -94,6 +94,6 @@ is-whole s h k =
       sends = good;
       receives = list-good (s .n) (s .own) (s .receives) (h .receives) (k .receives);
       waiters = is-waiting (stateOf s) (s .live) (awaitedOf s) (all (s .sends)) (k .waiting-to-live);
-      retries = le-leb _ _ (k .retries-fit);
+      retries = turn-fits (s .turn) (s .limit) (k .retries-fit);
       awaited = is-awaited (stateOf s) (s .n) (s .own) (s .sends) (list-apart (s .n) (s .own) (s .sends) good) (awaitedOf s) (k .awaited);
     })

@@ -1,6 +1,6 @@
 -- `whole::whole` meets its contract: at each return the tests that led there say which is the first that fails.
 use mathlib.Core.Path.{sym, ap, _∙_}
-use borrow.Author.Tests.{lt-leb, le-leb, not-true, not-false}
+use borrow.Author.Tests.{not-true, not-false}
 use Rattle.wholeness.proofs.Laws.Whole.{test-stops, test-passes, test-last}
 use Rattle.station.specs.Stations.{stateOf}
 use Rattle.wholeness.specs.Whole.{companyGood, whole}
@@ -64,15 +64,18 @@ returns-5 c =
     ∙ test-passes _ _ (sym (c .before .before .before .before .lists-good .ensures) ∙ not-false _ (c .before .before .before .if4 .left))
     ∙ test-stops _ _ (sym (c .before .waiters-good .ensures ∙ rw (c .before .before .flight .ensures)) ∙ not-true _ (c .if5 .taken)))
 
+turn-fits-requires : tie.Need-turn-fits-requires
+turn-fits-requires c κs = search needs
+
 returns-6 : tie.Need-returns-6
 unfolding whole
 returns-6 c =
-    sym (test-passes _ _ (sym (c .before .before .before .before .before .before .before .before .before .before .before .before .before .before .ring-good .ensures) ∙ not-false _ (c .before .before .before .before .before .before .before .before .before .before .before .before .before .if1 .left))
-    ∙ test-passes _ _ (sym (c .before .before .before .before .before .before .before .before .before .before .before .before .seats-good .ensures) ∙ not-false _ (c .before .before .before .before .before .before .before .before .before .before .before .if2 .left))
-    ∙ test-passes _ _ (sym (c .before .before .before .before .before .before .before .before .before .company-good .ensures ∙ ap (companyGood (stateOf (c .before .before .before .before .before .before .before .before .before .before .before .before .before .before .before .before .args .s))) (c .before .before .before .before .before .before .before .before .before .before .alone .ensures)) ∙ not-false _ (c .before .before .before .before .before .before .before .before .if3 .left))
-    ∙ test-passes _ _ (sym (c .before .before .before .before .before .before .before .lists-good .ensures) ∙ not-false _ (c .before .before .before .before .before .before .if4 .left))
-    ∙ test-passes _ _ (sym (c .before .before .before .before .waiters-good .ensures ∙ rw (c .before .before .before .before .before .flight .ensures)) ∙ not-false _ (c .before .before .before .if5 .left))
-    ∙ test-stops _ _ (lt-leb _ _ (c .if6 .taken)))
+    sym (test-passes _ _ (sym (c .before .before .before .before .before .before .before .before .before .before .before .before .before .ring-good .ensures) ∙ not-false _ (c .before .before .before .before .before .before .before .before .before .before .before .before .if1 .left))
+    ∙ test-passes _ _ (sym (c .before .before .before .before .before .before .before .before .before .before .before .seats-good .ensures) ∙ not-false _ (c .before .before .before .before .before .before .before .before .before .before .if2 .left))
+    ∙ test-passes _ _ (sym (c .before .before .before .before .before .before .before .before .company-good .ensures ∙ ap (companyGood (stateOf (c .before .before .before .before .before .before .before .before .before .before .before .before .before .before .before .args .s))) (c .before .before .before .before .before .before .before .before .before .alone .ensures)) ∙ not-false _ (c .before .before .before .before .before .before .before .if3 .left))
+    ∙ test-passes _ _ (sym (c .before .before .before .before .before .before .lists-good .ensures) ∙ not-false _ (c .before .before .before .before .before .if4 .left))
+    ∙ test-passes _ _ (sym (c .before .before .before .waiters-good .ensures ∙ rw (c .before .before .before .before .flight .ensures)) ∙ not-false _ (c .before .before .if5 .left))
+    ∙ test-stops _ _ (sym (c .before .turn-fits .ensures) ∙ not-true _ (c .if6 .taken)))
 
 awaited-good-requires : tie.Need-awaited-good-requires
 awaited-good-requires c κs = search needs
@@ -81,12 +84,12 @@ returns-7 : tie.Need-returns-7
 unfolding whole
 returns-7 c =
     c .awaited-good .ensures
-    ∙ sym (test-passes _ _ (sym (c .before .before .before .before .before .before .before .before .before .before .before .before .before .before .before .ring-good .ensures) ∙ not-false _ (c .before .before .before .before .before .before .before .before .before .before .before .before .before .before .if1 .left))
-    ∙ test-passes _ _ (sym (c .before .before .before .before .before .before .before .before .before .before .before .before .before .seats-good .ensures) ∙ not-false _ (c .before .before .before .before .before .before .before .before .before .before .before .before .if2 .left))
-    ∙ test-passes _ _ (sym (c .before .before .before .before .before .before .before .before .before .before .company-good .ensures ∙ ap (companyGood (stateOf (c .before .before .before .before .before .before .before .before .before .before .before .before .before .before .before .before .before .args .s))) (c .before .before .before .before .before .before .before .before .before .before .before .alone .ensures)) ∙ not-false _ (c .before .before .before .before .before .before .before .before .before .if3 .left))
-    ∙ test-passes _ _ (sym (c .before .before .before .before .before .before .before .before .lists-good .ensures) ∙ not-false _ (c .before .before .before .before .before .before .before .if4 .left))
-    ∙ test-passes _ _ (sym (c .before .before .before .before .before .waiters-good .ensures ∙ rw (c .before .before .before .before .before .before .flight .ensures)) ∙ not-false _ (c .before .before .before .before .if5 .left))
-    ∙ test-passes _ _ (le-leb _ _ (c .before .if6 .left))
+    ∙ sym (test-passes _ _ (sym (c .before .before .before .before .before .before .before .before .before .before .before .before .before .before .ring-good .ensures) ∙ not-false _ (c .before .before .before .before .before .before .before .before .before .before .before .before .before .if1 .left))
+    ∙ test-passes _ _ (sym (c .before .before .before .before .before .before .before .before .before .before .before .before .seats-good .ensures) ∙ not-false _ (c .before .before .before .before .before .before .before .before .before .before .before .if2 .left))
+    ∙ test-passes _ _ (sym (c .before .before .before .before .before .before .before .before .before .company-good .ensures ∙ ap (companyGood (stateOf (c .before .before .before .before .before .before .before .before .before .before .before .before .before .before .before .before .args .s))) (c .before .before .before .before .before .before .before .before .before .before .alone .ensures)) ∙ not-false _ (c .before .before .before .before .before .before .before .before .if3 .left))
+    ∙ test-passes _ _ (sym (c .before .before .before .before .before .before .before .lists-good .ensures) ∙ not-false _ (c .before .before .before .before .before .before .if4 .left))
+    ∙ test-passes _ _ (sym (c .before .before .before .before .waiters-good .ensures ∙ rw (c .before .before .before .before .before .flight .ensures)) ∙ not-false _ (c .before .before .before .if5 .left))
+    ∙ test-passes _ _ (sym (c .before .before .turn-fits .ensures) ∙ not-false _ (c .before .if6 .left))
     ∙ test-last _)
 
 pub whole-spec : {M : Type 1} → statement M
@@ -105,6 +108,7 @@ whole-spec =
     flight-requires
     waiters-good-requires
     returns-5
+    turn-fits-requires
     returns-6
     awaited-good-requires
     returns-7)
