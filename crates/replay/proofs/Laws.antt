@@ -1,0 +1,6 @@
+-- Laws, one idea a file.
+pub mod Wire
+pub mod Lines
+pub mod Strikes
+pub mod Turns
+pub mod Marks
