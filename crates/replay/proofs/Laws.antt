@@ -4,3 +4,5 @@ pub mod Lines
 pub mod Strikes
 pub mod Turns
 pub mod Marks
+pub mod Frames
+pub mod Days

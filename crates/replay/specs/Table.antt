@@ -23,7 +23,7 @@ use Rattle.station.specs.declared.station.Answer.{Answer}
 use Rattle.bench.specs.Ring.{nobody}
 use Rattle.bench.specs.Rows.{rowOn}
 use Rattle.bench.specs.Text.{rowsText, answerText}
-use Rattle.bench.specs.Delivery.{handed, isQuiet}
+use Rattle.bench.specs.Delivery.{handed, delivered, isQuiet}
 use Rattle.bench.specs.Table.{hears, noFrame, isSent}
 use Rattle.bench.specs.declared.table.Handing.{Handing}
 use Rattle.capture.specs.declared.record.Event.{Event}
@@ -275,3 +275,34 @@ afterRead w (Good event next) h t a = afterEvent w event next h t a
 -- whether there is a next turn
 abbrev pub goesOn : Way → Bool
 goesOn w = pick (ltb (w .k) (w .most)) (eqb (w .number) 0) false
+
+-- ---- a record's turn over the table
+
+-- what the frame that is handed round brings
+abbrev pub takenIn : Handing → List Station → Taken
+takenIn h ss =
+    record {
+      strikers = strikersOf noStrikers (span h) ss h;
+      reply = handed (h .n) (hears h) (h .frame) (h .from) (h .to) (h .to) (getD ss (h .to) nobody) .sent;
+    }
+
+-- the table once it has been handed round
+abbrev pub handedIn : Handing → List Station → List Station
+handedIn h ss = delivered (h .n) (hears h) (h .frame) (h .from) (h .to) 0 ss
+
+-- and once the station at a place has been called
+abbrev pub calledIn : ℕ → Call → List Station → List Station
+calledIn p c ss = set ss p (keptBy (getD ss p nobody) c .station)
+
+abbrev pub tableIn : Plan → List Station → List Station
+tableIn p ss = calledIn (p .place) (p .call) (handedIn (p .handing) ss)
+
+abbrev pub toldIn : Plan → List Station → Told
+toldIn p ss = toldBy (getD ss (p .place) nobody) (p .call)
+
+-- what is left of a run after the record in hand, and what it prints
+abbrev pub wayAfter : Way → Read → List Station → Way
+wayAfter w r ss = afterRead w r (planIn w r .handing) (takenIn (planIn w r .handing) ss) (toldIn (planIn w r) ss)
+
+abbrev pub textAfter : Way → Read → List Station → List ℕ
+textAfter w r ss = readText w r (planIn w r .handing) (takenIn (planIn w r .handing) ss) (toldIn (planIn w r) ss)

@@ -27,7 +27,7 @@ use Rattle.bench.specs.declared.table.Handing.{Handing}
 use Rattle.replay.specs.Table.{heeds, isMember, strikesBy}
 
 -- whom a station strikes newly where `w` fails
-abbrev newlyOf : Live → Whom → Whom
+abbrev pub newlyOf : Live → Whom → Whom
 newlyOf l Nobody = Nobody
 newlyOf l (Member p) = newly l p
 
@@ -81,7 +81,7 @@ asked-alike true true false c w = refl
 asked-alike true true true false w = refl
 asked-alike true true true true w = refl
 
-not-less : (p n : ℕ) → leb n p ≡ not (ltb p n)
+pub not-less : (p n : ℕ) → leb n p ≡ not (ltb p n)
 not-less p n = go (ltb p n) refl
   where
     go : (b : Bool) → ltb p n ≡ b → leb n p ≡ not b
