@@ -1,7 +1,7 @@
 -- What the functions over the lent table give.
 use mathlib.Core.Bool.{Bool, true, false, not}
 use mathlib.Core.List.{List, [], _∷_, _++_}
-use Prim.Native.Nat.{ℕ, zero, suc, _+_}
+use Prim.Native.Nat.{ℕ, zero, suc, _+_, _^_, _<_, _≤_}
 use lib.Dec.{ltb, leb, eqb}
 use lib.ListN.{length, getD, take, drop, replicate, set}
 use Rattle.parts.specs.Choose.{pick}
@@ -232,6 +232,9 @@ takenText h t = strikersText h (t .strikers) ++ rowsText (rowOn (h .to) (t .repl
 abbrev pub calledText : ℕ → Told → List ℕ
 calledText p a = struckText (a .struck) p ++ rowsText (rowOn p (a .sent))
 
+abbrev pub takenOf : Live → Dispatch → Taken
+takenOf strikers reply = record { strikers = strikers; reply = reply }
+
 -- what joins: never more than 64
 abbrev pub joinedBy : List Flying → ℕ → Dispatch → List Flying
 joinedBy wire p sent = take mostFrames (wire ++ joining p sent)
@@ -306,3 +309,7 @@ wayAfter w r ss = afterRead w r (planIn w r .handing) (takenIn (planIn w r .hand
 
 abbrev pub textAfter : Way → Read → List Station → List ℕ
 textAfter w r ss = readText w r (planIn w r .handing) (takenIn (planIn w r .handing) ss) (toldIn (planIn w r) ss)
+
+-- a run that has a next turn: the record in hand calls a station of the table, and there is room for what it prints
+abbrev pub Ready : Going → ℕ → Type 0
+Ready g room = (g .done < 2 ^ 63) × ((g .k < g .most) × ((g .used + 1440 ≤ room) × (planIn (wayOf g) (g .read) .place < 64)))

@@ -17,6 +17,8 @@ ghost use Rattle.replay.specs.Table.{
   placeFor,
   noPlan,
   planIn,
+  Ready,
+  takenOf,
   movedOn,
   halted,
   timerLines,
@@ -38,8 +40,10 @@ use crate::wire::Frames;
 use bench::table::Handing;
 use capture::record::Event;
 use capture::record::Read;
+use parts::frame::Dispatch;
 use parts::frame::Frame;
 use parts::frame::TransmitFrame;
+use parts::live::Live;
 
 // `k` of `most` turns are done, what is printed ends at `used`, the next record begins at `at`; `read` is the record in hand.
 pub struct Going {
@@ -183,6 +187,28 @@ pub fn no_plan() -> Plan
     }
 }
 
+// The parts of the plan.
+pub fn handing_in(g: Going) -> Handing
+    ensures { λ r. ⌜ r ≡ planIn (wayOf g) (g .read) .handing ⌝ }
+{
+    let p = plan_of(g);
+    p.handing
+}
+
+pub fn place_in(g: Going) -> usize
+    ensures { λ r. ⌜ r ≡ planIn (wayOf g) (g .read) .place ⌝ }
+{
+    let p = plan_of(g);
+    p.place
+}
+
+pub fn call_in(g: Going) -> Call
+    ensures { λ r. ⌜ r ≡ planIn (wayOf g) (g .read) .call ⌝ }
+{
+    let p = plan_of(g);
+    p.call
+}
+
 // What was printed ends at `used`: the run goes on behind the record in hand.
 pub fn go_on(g: Going, wire: Frames, next: usize, used: usize) -> Going
     requires { ⌜ (g .done < 2 ^ 63) × (g .k < g .most) ⌝ }
@@ -299,13 +325,14 @@ pub fn on_event(
 }
 
 // What the record in hand leaves and prints, from what became of its plan.
-pub fn print(out: &mut [u8], g: Going, p: Plan, t: Taken, a: Told) -> Going
-    requires { ⌜ (g .done < 2 ^ 63) × ((g .k < g .most) × ((g .used + 1440 ≤ length (now out)) × ((p .handing .m ≤ 64) × ((p .place < 64) × (p ≡ planIn (wayOf g) (g .read)))))) ⌝ }
-    ensures { λ r. ⌜ (wayOf r ≡ afterRead (wayOf g) (g .read) (p .handing) t a)
-        × (now (out .exit) ≡ laid (now (out .entry)) (g .used) (readText (wayOf g) (g .read) (p .handing) t a)) ⌝ }
+pub fn print(out: &mut [u8], g: Going, strikers: Live, reply: Dispatch, a: Told) -> Going
+    requires { ⌜ Ready g (length (now out)) ⌝ }
+    ensures { λ r. ⌜ (wayOf r ≡ afterRead (wayOf g) (g .read) (planIn (wayOf g) (g .read) .handing) (takenOf strikers reply) a)
+        × (now (out .exit) ≡ laid (now (out .entry)) (g .used) (readText (wayOf g) (g .read) (planIn (wayOf g) (g .read) .handing) (takenOf strikers reply) a)) ⌝ }
 {
+    let h = handing_in(g);
+    let t = Taken { strikers, reply };
     let read = g.read;
-    let h = p.handing;
     match read {
         Read::Good { event, next } => on_event(&mut *out, g, event, next, h, t, a),
         Read::Refused(number) => stop(&mut *out, g, number),

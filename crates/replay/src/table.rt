@@ -3,10 +3,15 @@ ghost use mathlib.Core.Path.{_≡_};
 ghost use Prim.Native.Nat.{_<_, _≤_};
 ghost use lib.ListN.{length, getD, set};
 ghost use Rattle.bench.specs.Ring.{nobody};
-ghost use Rattle.replay.specs.Table.{strikesAt, strikersOf, toldBy, keptBy};
+ghost use Rattle.codec.specs.Octets.{laid};
+ghost use Rattle.parts.specs.Live.{seats};
+ghost use Rattle.bench.specs.Delivery.{isQuiet};
+ghost use Rattle.replay.specs.Table.{strikesAt, strikersOf, toldBy, keptBy, planIn, takenIn, handedIn, calledIn, tableIn, toldIn, wayOf, wayAfter, textAfter, Ready};
 use crate::calls::Call;
 use crate::calls::Told;
+use crate::going::Going;
 use bench::table::Handing;
+use parts::frame::Dispatch;
 use parts::live::Live;
 use station::station::Station;
 
@@ -53,4 +58,60 @@ pub fn call_at(table: &mut [Station], p: usize, c: Call) -> u32
     let d = crate::calls::kept_by(s, c);
     table[p] = d.station;
     d.number
+}
+
+// The frame is handed round, and the station is called. The addressee's new frame.
+pub fn act(table: &mut [Station], h: Handing, p: usize, c: Call) -> Dispatch
+    requires { ⌜ (length (now table) ≡ 64) × ((h .m ≡ seats (h .n)) × ((h .quiet ≡ isQuiet (h .frame)) × (p < 64))) ⌝ }
+    ensures { λ r. ⌜ (r ≡ takenIn h (now (table .entry)) .reply) × (now (table .exit) ≡ calledIn p c (handedIn h (now (table .entry)))) ⌝ }
+{
+    let reply = bench::table::hand(&mut *table, h);
+    call_at(&mut *table, p, c);
+    reply
+}
+
+// Who newly strikes at the record in hand.
+fn strikers_for(table: &[Station], g: Going) -> Live
+    requires { ⌜ length (now table) ≡ 64 ⌝ }
+    ensures { λ r. ⌜ r ≡ takenIn (planIn (wayOf g) (g .read) .handing) (now (table .entry)) .strikers ⌝ }
+{
+    let h = crate::going::handing_in(g);
+    let m = crate::strikes::span_of(h);
+    let none = crate::strikes::no_strikers();
+    strikers(table, h, m, none)
+}
+
+// What the station that it calls tells.
+fn told_for(table: &[Station], g: Going) -> Told
+    requires { ⌜ (length (now table) ≡ 64) × (planIn (wayOf g) (g .read) .place < 64) ⌝ }
+    ensures { λ r. ⌜ r ≡ toldIn (planIn (wayOf g) (g .read)) (now (table .entry)) ⌝ }
+{
+    let p = crate::going::place_in(g);
+    let c = crate::going::call_in(g);
+    told_at(table, p, c)
+}
+
+// It is carried out.
+fn act_for(table: &mut [Station], g: Going) -> Dispatch
+    requires { ⌜ (length (now table) ≡ 64) × (planIn (wayOf g) (g .read) .place < 64) ⌝ }
+    ensures { λ r. ⌜ (r ≡ takenIn (planIn (wayOf g) (g .read) .handing) (now (table .entry)) .reply)
+        × (now (table .exit) ≡ tableIn (planIn (wayOf g) (g .read)) (now (table .entry))) ⌝ }
+{
+    let p = crate::going::place_in(g);
+    let c = crate::going::call_in(g);
+    let h = crate::going::handing_in(g);
+    act(&mut *table, h, p, c)
+}
+
+// One record.
+fn advance(table: &mut [Station], out: &mut [u8], g: Going) -> Going
+    requires { ⌜ (length (now table) ≡ 64) × Ready g (length (now out)) ⌝ }
+    ensures { λ r. ⌜ (wayOf r ≡ wayAfter (wayOf g) (g .read) (now (table .entry)))
+        × ((now (table .exit) ≡ tableIn (planIn (wayOf g) (g .read)) (now (table .entry)))
+        × (now (out .exit) ≡ laid (now (out .entry)) (g .used) (textAfter (wayOf g) (g .read) (now (table .entry))))) ⌝ }
+{
+    let l = strikers_for(&*table, g);
+    let t = told_for(&*table, g);
+    let reply = act_for(&mut *table, g);
+    crate::going::print(&mut *out, g, l, reply, t)
 }

@@ -10,6 +10,7 @@ use borrow.Author.Tests.{eq-eqb}
 use Rattle.codec.specs.Octets.{laid}
 use Rattle.codec.proofs.Laws.Octets.{laid-none}
 use Rattle.parts.proofs.Laws.Choose.{pick-true}
+use Rattle.parts.proofs.Laws.Live.{seats-most}
 use Rattle.bench.specs.Text.{answerText}
 use Rattle.replay.specs.Printed.{stoppedText}
 use Rattle.parts.specs.Live.{seats}
@@ -178,3 +179,37 @@ timer-place e p x h = subst (λ (d : Event). placeFor d < 64) x h
 
 pub planned-place : (w : Way) (r : Read) (p : Plan) (e : Event) (next : ℕ) → p ≡ planIn w r → r ≡ Good e next → p .place < 64 → placeFor e < 64
 planned-place w r p e next x y h = subst (λ (k : ℕ). k < 64) (ap (λ (q : Plan). q .place) (x ∙ plan-event w r e next y)) h
+
+-- ---- as `hand` asks for it
+
+handing-asks : (n : ℕ) (lost : Bool) (wire : List Flying) → (handingWith n lost wire .m ≡ seats (handingWith n lost wire .n)) × (handingWith n lost wire .quiet ≡ isQuiet (handingWith n lost wire .frame))
+unfolding handingWith
+handing-asks n lost [] = (sym (pick-true 0 64 refl), refl)
+handing-asks n lost (f ∷ rest) = (refl, refl)
+
+nobody-asks : (noHanding .m ≡ seats (noHanding .n)) × (noHanding .quiet ≡ isQuiet (noHanding .frame))
+nobody-asks = (sym (pick-true 0 64 refl), refl)
+
+event-asks : (n : ℕ) (wire : List Flying) (e : Event) → (handingFor n wire e .m ≡ seats (handingFor n wire e .n)) × (handingFor n wire e .quiet ≡ isQuiet (handingFor n wire e .frame))
+unfolding handingFor
+event-asks n wire Delivered = handing-asks n false wire
+event-asks n wire LostForAddressee = handing-asks n true wire
+event-asks n wire LostForAll = nobody-asks
+event-asks n wire (Timer p) = nobody-asks
+event-asks n wire (Queue p q) = nobody-asks
+
+pub plan-asks : (w : Way) (r : Read) → (planIn w r .handing .m ≡ seats (planIn w r .handing .n)) × (planIn w r .handing .quiet ≡ isQuiet (planIn w r .handing .frame))
+unfolding planIn
+plan-asks w End = nobody-asks
+plan-asks w (Refused k) = nobody-asks
+plan-asks w (Good e next) = event-asks (w .n) (w .wire) e
+
+pub plan-most : (w : Way) (r : Read) → planIn w r .handing .m ≤ 64
+plan-most w r = omega (arith, plan-asks w r .0, seats-most (planIn w r .handing .n))
+
+pub event-place : (w : Way) (r : Read) (e : Event) (next : ℕ) → r ≡ Good e next → planIn w r .place < 64 → placeFor e < 64
+event-place w r e next y h = planned-place w r (planIn w r) e next refl y h
+
+-- the same turn with the plan's handing by another name
+pub same-done : (w w′ : Way) (d : Read) (h h′ : Handing) (t : Taken) (a : Told) (l l₁ : List ℕ) → h ≡ h′ → (w′ ≡ afterRead w d h t a) × (l₁ ≡ laid l (w .used) (readText w d h t a)) → (w′ ≡ afterRead w d h′ t a) × (l₁ ≡ laid l (w .used) (readText w d h′ t a))
+same-done w w′ d h h′ t a l l₁ e x = rw (← e) x
