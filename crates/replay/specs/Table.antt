@@ -1,10 +1,13 @@
 -- What the functions over the lent table give.
+use mathlib.Core.Path.{_≡_}
 use mathlib.Core.Bool.{Bool, true, false, not}
 use mathlib.Core.List.{List, [], _∷_, _++_}
 use Prim.Native.Nat.{ℕ, zero, suc, _+_, _^_, _<_, _≤_}
 use lib.Dec.{ltb, leb, eqb}
 use lib.ListN.{length, getD, take, drop, replicate, set}
+use Rattle.codec.specs.Octets.{laid}
 use Rattle.parts.specs.Choose.{pick}
+use Rattle.capture.specs.Record.{readRecord}
 use Rattle.parts.specs.Live.{liveAt, seats}
 use Rattle.parts.specs.Frames.{failingOf}
 use Rattle.parts.specs.Moves.{moveOf, runs}
@@ -313,3 +316,14 @@ textAfter w r ss = readText w r (planIn w r .handing) (takenIn (planIn w r .hand
 -- a run that has a next turn: the record in hand calls a station of the table, and there is room for what it prints
 abbrev pub Ready : Going → ℕ → Type 0
 Ready g room = (g .done < 2 ^ 63) × ((g .k < g .most) × ((g .used + 1440 ≤ room) × (planIn (wayOf g) (g .read) .place < 64)))
+
+-- there is room for one record more
+abbrev pub Open : Going → ℕ → Type 0
+Open g room = (g .done < 2 ^ 63) × ((g .k < g .most) × (g .used + 1440 ≤ room))
+
+-- one record read from the octets s and carried out: the run, the table and the out buffer then
+abbrev pub Advanced : Way → List ℕ → List Station → List ℕ → Way → List Station → List ℕ → Type 0
+Advanced w s ys os w′ zs us =
+    (w′ ≡ wayAfter w (readRecord (seats (w .n)) s (w .at)) ys)
+    × ((zs ≡ tableIn (planIn w (readRecord (seats (w .n)) s (w .at))) ys)
+    × (us ≡ laid os (w .used) (textAfter w (readRecord (seats (w .n)) s (w .at)) ys)))

@@ -6,7 +6,7 @@ ghost use Rattle.bench.specs.Ring.{nobody};
 ghost use Rattle.codec.specs.Octets.{laid};
 ghost use Rattle.parts.specs.Live.{seats};
 ghost use Rattle.bench.specs.Delivery.{isQuiet};
-ghost use Rattle.replay.specs.Table.{strikesAt, strikersOf, toldBy, keptBy, planIn, takenIn, handedIn, calledIn, tableIn, toldIn, wayOf, wayAfter, textAfter, Ready};
+ghost use Rattle.replay.specs.Table.{strikesAt, strikersOf, toldBy, keptBy, planIn, takenIn, handedIn, calledIn, tableIn, toldIn, wayOf, wayAfter, textAfter, Ready, Open, Advanced};
 use crate::calls::Call;
 use crate::calls::Told;
 use crate::going::Going;
@@ -114,4 +114,13 @@ fn advance(table: &mut [Station], out: &mut [u8], g: Going) -> Going
     let t = told_for(&*table, g);
     let reply = act_for(&mut *table, g);
     crate::going::print(&mut *out, g, l, reply, t)
+}
+
+// The next record is read, and carried out.
+fn next(s: &[u8], table: &mut [Station], out: &mut [u8], g: Going) -> Going
+    requires { ⌜ (length (now table) ≡ 64) × Open g (length (now out)) ⌝ }
+    ensures { λ r. ⌜ Advanced (wayOf g) (now (s .entry)) (now (table .entry)) (now (out .entry)) (wayOf r) (now (table .exit)) (now (out .exit)) ⌝ }
+{
+    let r = crate::going::read_on(s, g);
+    advance(&mut *table, &mut *out, r)
 }
