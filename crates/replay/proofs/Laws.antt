@@ -6,3 +6,5 @@ pub mod Turns
 pub mod Marks
 pub mod Frames
 pub mod Days
+pub mod Loops
+pub mod Turning

@@ -6,7 +6,7 @@ ghost use Rattle.bench.specs.Ring.{nobody};
 ghost use Rattle.codec.specs.Octets.{laid};
 ghost use Rattle.parts.specs.Live.{seats};
 ghost use Rattle.bench.specs.Delivery.{isQuiet};
-ghost use Rattle.replay.specs.Table.{strikesAt, strikersOf, toldBy, keptBy, planIn, takenIn, handedIn, calledIn, tableIn, toldIn, wayOf, wayAfter, textAfter, Ready, Open, Advanced};
+ghost use Rattle.replay.specs.Table.{strikesAt, strikersOf, toldBy, keptBy, planIn, takenIn, handedIn, calledIn, tableIn, toldIn, wayOf, wayAfter, textAfter, Ready, Open, Advanced, Begins, Turned};
 use crate::calls::Call;
 use crate::calls::Told;
 use crate::going::Going;
@@ -123,4 +123,16 @@ fn next(s: &[u8], table: &mut [Station], out: &mut [u8], g: Going) -> Going
 {
     let r = crate::going::read_on(s, g);
     advance(&mut *table, &mut *out, r)
+}
+
+// Records, as many as there are turns for.
+fn run_table(s: &[u8], table: &mut [Station], out: &mut [u8], g: Going) -> Going
+    requires { ⌜ (length (now table) ≡ 64) × Begins g (length (now out)) ⌝ }
+    ensures { λ r. ⌜ Turned (wayOf g) (now (s .entry)) (now (table .entry)) (now (out .entry)) (wayOf r) (now (table .exit)) (now (out .exit)) ⌝ }
+{
+    let mut r = g;
+    while crate::going::goes_on(r) {
+        r = next(s, &mut *table, &mut *out, r);
+    }
+    r
 }
