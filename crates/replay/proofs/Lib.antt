@@ -1,1 +1,2 @@
 -- The laws of the recorded day that belong to no one function.
+pub mod Laws

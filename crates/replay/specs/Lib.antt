@@ -2,3 +2,5 @@ pub mod Day
 pub mod Records
 pub mod Printed
 pub mod Runs
+pub mod Wire
+pub mod Table

@@ -35,10 +35,14 @@ startText d = heading ++ wireText (d .wire)
 
 -- ---- one record: who newly struck whom, in ring order, and then the new frame
 
--- the station q has newly struck w
+-- the station q has newly struck the station p
+unfoldable pub strikeText : ℕ → ℕ → List ℕ
+strikeText p q = text "struck " ++ (cell p space ++ (text "by " ++ cell q lineFeed))
+
+-- whom it has newly struck, if anyone
 unfoldable pub struckText : Whom → ℕ → List ℕ
 struckText Nobody q = []
-struckText (Member p) q = text "struck " ++ (cell p space ++ (text "by " ++ cell q lineFeed))
+struckText (Member p) q = strikeText p q
 
 -- by the stations from the position p on, each once it has been handed the frame
 unfoldable pub strikesText : ℕ → (ℕ → Bool) → Frame → ℕ → ℕ → ℕ → List Station → List ℕ
