@@ -29,7 +29,8 @@ use Rattle.bench.specs.Ring.{nobody}
 use Rattle.bench.specs.Rows.{rowOn}
 use Rattle.bench.specs.Text.{rowsText, answerText}
 use Rattle.bench.specs.Delivery.{handed, delivered, others, hearing, isQuiet}
-use Rattle.bench.specs.Table.{hears, isSent, noFrame}
+use Rattle.bench.specs.Delivery.{isSent}
+use Rattle.bench.specs.Table.{hears, noFrame}
 use Rattle.bench.specs.declared.table.Handing.{Handing}
 use Rattle.capture.specs.declared.record.Event.{Event}
 use Rattle.capture.specs.declared.record.Event.the-variants.{Delivered, LostForAddressee, LostForAll, Timer, Queue}
