@@ -6,5 +6,7 @@ pub mod Turns
 pub mod Marks
 pub mod Frames
 pub mod Days
-pub mod Loops
-pub mod Turning
+pub mod Running
+pub mod Refusing
+pub mod Standing
+pub mod Starting

@@ -4,3 +4,5 @@ pub mod Printed
 pub mod Runs
 pub mod Wire
 pub mod Table
+pub mod Running
+pub mod Replays

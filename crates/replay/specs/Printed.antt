@@ -26,9 +26,12 @@ use Rattle.replay.specs.declared.wire.Flying.{Flying}
 
 -- ---- the beginning: the bench's heading, and the frames on the wire
 
+abbrev pub flyingText : Flying → List ℕ
+flyingText f = rowText (rowOf (f .from) (f .frame) (f .to))
+
 unfoldable pub wireText : List Flying → List ℕ
 wireText [] = []
-wireText (f ∷ fs) = rowText (rowOf (f .from) (f .frame) (f .to)) ++ wireText fs
+wireText (f ∷ fs) = flyingText f ++ wireText fs
 
 abbrev pub startText : Day → List ℕ
 startText d = heading ++ wireText (d .wire)

@@ -1,13 +1,10 @@
 -- What the functions over the lent table give.
-use mathlib.Core.Path.{_≡_}
 use mathlib.Core.Bool.{Bool, true, false, not}
 use mathlib.Core.List.{List, [], _∷_, _++_}
-use Prim.Native.Nat.{ℕ, zero, suc, _+_, _*_, _-_, _^_, _<_, _≤_}
+use Prim.Native.Nat.{ℕ, zero, suc, _+_, _^_, _<_, _≤_}
 use lib.Dec.{ltb, leb, eqb}
 use lib.ListN.{length, getD, take, drop, replicate, set}
-use Rattle.codec.specs.Octets.{laid}
 use Rattle.parts.specs.Choose.{pick}
-use Rattle.capture.specs.Record.{readRecord}
 use Rattle.parts.specs.Live.{liveAt, seats}
 use Rattle.parts.specs.Frames.{failingOf}
 use Rattle.parts.specs.Moves.{moveOf, runs}
@@ -317,51 +314,3 @@ textAfter w r ss = readText w r (planIn w r .handing) (takenIn (planIn w r .hand
 -- a run that has a next turn: the record in hand calls a station of the table, and there is room for what it prints
 abbrev pub Ready : Going → ℕ → Type 0
 Ready g room = (g .done < 2 ^ 63) × ((g .k < g .most) × ((g .used + 1440 ≤ room) × (planIn (wayOf g) (g .read) .place < 64)))
-
--- there is room for one record more
-abbrev pub Open : Going → ℕ → Type 0
-Open g room = (g .done < 2 ^ 63) × ((g .k < g .most) × (g .used + 1440 ≤ room))
-
--- one record read from the octets s and carried out: the run, the table and the out buffer then
-abbrev pub Advanced : Way → List ℕ → List Station → List ℕ → Way → List Station → List ℕ → Type 0
-Advanced w s ys os w′ zs us =
-    (w′ ≡ wayAfter w (readRecord (seats (w .n)) s (w .at)) ys)
-    × ((zs ≡ tableIn (planIn w (readRecord (seats (w .n)) s (w .at))) ys)
-    × (us ≡ laid os (w .used) (textAfter w (readRecord (seats (w .n)) s (w .at)) ys)))
-
--- ---- many records: at most m turns, until one is refused
-
-abbrev pub readNext : List ℕ → Way → Read
-readNext s w = readRecord (seats (w .n)) s (w .at)
-
-abbrev pub wayNext : List ℕ → Way → List Station → Way
-wayNext s w ss = wayAfter w (readNext s w) ss
-
-abbrev pub tableNext : List ℕ → Way → List Station → List Station
-tableNext s w ss = tableIn (planIn w (readNext s w)) ss
-
-abbrev pub textNext : List ℕ → Way → List Station → List ℕ
-textNext s w ss = textAfter w (readNext s w) ss
-
-unfoldable pub wayTurned : ℕ → List ℕ → Way → List Station → Way
-wayTurned zero s w ss = w
-wayTurned (suc m) s w ss = pick (eqb (w .number) 0) (wayTurned m s (wayNext s w ss) (tableNext s w ss)) w
-
-unfoldable pub tableTurned : ℕ → List ℕ → Way → List Station → List Station
-tableTurned zero s w ss = ss
-tableTurned (suc m) s w ss = pick (eqb (w .number) 0) (tableTurned m s (wayNext s w ss) (tableNext s w ss)) ss
-
-unfoldable pub textTurned : ℕ → List ℕ → Way → List Station → List ℕ
-textTurned zero s w ss = []
-textTurned (suc m) s w ss = pick (eqb (w .number) 0) (textNext s w ss ++ textTurned m s (wayNext s w ss) (tableNext s w ss)) []
-
--- what a run asks: it begins, and the out buffer has room for all of its turns
-abbrev pub Begins : Going → ℕ → Type 0
-Begins g room = (g .k ≡ 0) × ((1440 * g .most ≤ room - g .used) × ((g .done + g .most < 2 ^ 63) × (length (flyingOf (g .wire)) ≤ 64)))
-
--- and what it leaves
-abbrev pub Turned : Way → List ℕ → List Station → List ℕ → Way → List Station → List ℕ → Type 0
-Turned w s ys os w′ zs us =
-    (w′ ≡ wayTurned (w .most) s w ys)
-    × ((zs ≡ tableTurned (w .most) s w ys)
-    × (us ≡ laid os (w .used) (textTurned (w .most) s w ys)))

@@ -340,26 +340,6 @@ pub fn print(out: &mut [u8], g: Going, strikers: Live, reply: Dispatch, a: Told)
     }
 }
 
-// The record at `at` is taken in hand.
-pub fn read_on(s: &[u8], g: Going) -> Going
-    ensures { λ r. ⌜ (wayOf r ≡ wayOf g) × (r .read ≡ readRecord (seats (g .n)) (now (s .entry)) (g .at)) ⌝ }
-{
-    let m = parts::live::seats(g.n);
-    let read = capture::record::read_record(m, s, g.at);
-    let wire = g.wire;
-    Going {
-        n: g.n,
-        wire,
-        at: g.at,
-        done: g.done,
-        number: g.number,
-        used: g.used,
-        most: g.most,
-        k: g.k,
-        read,
-    }
-}
-
 // Whether there is a next turn.
 pub fn goes_on(g: Going) -> bool
     ensures { λ r. ⌜ r ≡ goesOn (wayOf g) ⌝ }

@@ -6,7 +6,8 @@ ghost use Rattle.bench.specs.Ring.{nobody};
 ghost use Rattle.codec.specs.Octets.{laid};
 ghost use Rattle.parts.specs.Live.{seats};
 ghost use Rattle.bench.specs.Delivery.{isQuiet};
-ghost use Rattle.replay.specs.Table.{strikesAt, strikersOf, toldBy, keptBy, planIn, takenIn, handedIn, calledIn, tableIn, toldIn, wayOf, wayAfter, textAfter, Ready, Open, Advanced, Begins, Turned};
+ghost use Rattle.replay.specs.Running.{Begins, AllDone};
+ghost use Rattle.replay.specs.Table.{strikesAt, strikersOf, toldBy, keptBy, planIn, takenIn, handedIn, calledIn, tableIn, toldIn, wayOf, wayAfter, textAfter, Ready};
 use crate::calls::Call;
 use crate::calls::Told;
 use crate::going::Going;
@@ -14,6 +15,12 @@ use bench::table::Handing;
 use parts::frame::Dispatch;
 use parts::live::Live;
 use station::station::Station;
+
+// The table and what is kept beside it, once a run's turns are done.
+pub struct RunIn {
+    pub stations: [Station; 64],
+    pub going: Going,
+}
 
 // Whether the station at `p` newly strikes.
 pub fn strikes_at(table: &[Station], p: usize, h: Handing) -> bool
@@ -116,23 +123,28 @@ fn advance(table: &mut [Station], out: &mut [u8], g: Going) -> Going
     crate::going::print(&mut *out, g, l, reply, t)
 }
 
-// The next record is read, and carried out.
-fn next(s: &[u8], table: &mut [Station], out: &mut [u8], g: Going) -> Going
-    requires { ⌜ (length (now table) ≡ 64) × Open g (length (now out)) ⌝ }
-    ensures { λ r. ⌜ Advanced (wayOf g) (now (s .entry)) (now (table .entry)) (now (out .entry)) (wayOf r) (now (table .exit)) (now (out .exit)) ⌝ }
-{
-    let r = crate::going::read_on(s, g);
-    advance(&mut *table, &mut *out, r)
-}
-
-// Records, as many as there are turns for.
-fn run_table(s: &[u8], table: &mut [Station], out: &mut [u8], g: Going) -> Going
-    requires { ⌜ (length (now table) ≡ 64) × Begins g (length (now out)) ⌝ }
-    ensures { λ r. ⌜ Turned (wayOf g) (now (s .entry)) (now (table .entry)) (now (out .entry)) (wayOf r) (now (table .exit)) (now (out .exit)) ⌝ }
+// The records from `at` on, as many as there are turns to do.
+fn run_table(table: &mut [Station], out: &mut [u8], capture: &[u8], g: Going) -> Going
+    requires { ⌜ (length (now table) ≡ 64) × Begins (wayOf g) (length (now out)) ⌝ }
+    ensures { λ r. ⌜ AllDone (wayOf g) (now (table .entry)) (now (capture .entry)) (now (out .entry)) (wayOf r) (now (table .exit)) (now (out .exit)) ⌝ }
 {
     let mut r = g;
     while crate::going::goes_on(r) {
-        r = next(s, &mut *table, &mut *out, r);
+        let next = crate::reading::read_next(capture, r);
+        r = advance(&mut *table, &mut *out, next);
     }
     r
+}
+
+// The owner of the table lends it for a run.
+pub fn run_in(t: [Station; 64], out: &mut [u8], capture: &[u8], g: Going) -> RunIn
+    requires { ⌜ Begins (wayOf g) (length (now out)) ⌝ }
+    ensures { λ r. ⌜ AllDone (wayOf g) t (now (capture .entry)) (now (out .entry)) (wayOf (r .going)) (r .stations) (now (out .exit)) ⌝ }
+{
+    let mut table = t;
+    let r = run_table(&mut table, &mut *out, capture, g);
+    RunIn {
+        stations: table,
+        going: r,
+    }
 }

@@ -3,10 +3,13 @@ ghost use mathlib.Core.Path.{_≡_};
 ghost use Prim.Native.Nat.{_+_, _*_, _≤_};
 ghost use lib.ListN.{length};
 ghost use Rattle.codec.specs.Octets.{laid};
-ghost use Rattle.replay.specs.Printed.{strikeText, struckText, stoppedText};
+ghost use Rattle.replay.specs.Printed.{flyingText, wireText, strikeText, struckText, stoppedText};
+ghost use Rattle.replay.specs.Wire.{flyingOf};
 ghost use Rattle.replay.specs.Table.{markText, marksText, takenText, calledText};
 use crate::calls::Told;
 use crate::strikes::Taken;
+use crate::wire::Flying;
+use crate::wire::Frames;
 use bench::ring::Wire;
 use bench::table::Handing;
 use parts::frame::Whom;
@@ -95,4 +98,30 @@ pub fn put_called(out: &mut [u8], at: usize, p: u8, t: Told) -> usize
     let sent = t.sent;
     let w = Wire { from: p, sent };
     bench::text::put_wire(&mut *out, a, w)
+}
+
+// A frame on the wire.
+pub fn put_flying(out: &mut [u8], at: usize, f: Flying) -> usize
+    requires { ⌜ at + 32 ≤ length (now out) ⌝ }
+    ensures { λ r. ⌜ (now (out .exit) ≡ laid (now (out .entry)) at (flyingText f)) × (r ≡ at + length (flyingText f)) ⌝ }
+{
+    let frame = f.frame;
+    let row = bench::rows::row_of(f.from, frame, f.to);
+    bench::text::put_row(&mut *out, at, row)
+}
+
+// All of them, the oldest first.
+pub fn put_frames(out: &mut [u8], at: usize, w: Frames) -> usize
+    requires { ⌜ at + 2048 ≤ length (now out) ⌝ }
+    ensures { λ r. ⌜ (now (out .exit) ≡ laid (now (out .entry)) at (wireText (flyingOf w))) × (r ≡ at + length (wireText (flyingOf w))) ⌝ }
+{
+    let n = crate::wire::count(w);
+    let mut end = at;
+    let mut i: usize = 0;
+    while i < n {
+        let f = w.items[i];
+        end = put_flying(&mut *out, end, f);
+        i += 1;
+    }
+    end
 }

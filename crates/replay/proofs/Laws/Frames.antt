@@ -20,7 +20,7 @@ use Rattle.parts.specs.declared.frame.Whom.the-variants.{Nobody, Member}
 use Rattle.parts.specs.declared.live.Live.{Live}
 use Rattle.parts.proofs.Laws.Choose.{pick-true, pick-false}
 use Rattle.parts.proofs.Laws.Live.{seats-most}
-use Rattle.parts.specs.Heard.{newly}
+use Rattle.parts.specs.Live.{newly}
 use Rattle.station.specs.Stations.{answered}
 use Rattle.station.specs.declared.station.Station.{Station}
 use Rattle.station.specs.declared.station.Answer.{Answer}

@@ -2,7 +2,7 @@
 use mathlib.Core.Path.{_≡_, refl, sym, ap, subst, _∙_}
 use mathlib.Core.Bool.{Bool, true, false}
 use mathlib.Core.List.{List}
-use Prim.Native.Nat.{ℕ, suc, _+_, _<_, _≤_}
+use Prim.Native.Nat.{ℕ, suc, _+_, _≤_}
 use native.Mathlib.Omega.{arith}
 use lib.ListN.{length, getD}
 use native.Mathlib.Numerals.{add-one}
@@ -14,14 +14,8 @@ use Rattle.parts.specs.Live.{seats}
 use Rattle.parts.specs.declared.frame.Dispatch.{Dispatch}
 use Rattle.bench.specs.Ring.{nobody}
 use Rattle.bench.specs.Delivery.{isQuiet}
-use Rattle.capture.specs.Record.{readRecord, EventFits}
-use Rattle.capture.specs.declared.record.Event.{Event}
-use Rattle.capture.specs.declared.record.Event.the-variants.{Delivered, LostForAddressee, LostForAll, Timer, Queue}
 use Rattle.capture.specs.declared.record.Read.{Read}
-use Rattle.capture.specs.declared.record.Read.the-variants.{End, Refused, Good}
-use Rattle.capture.proofs.Theorems.ReadWrite.{read-fits}
-use Rattle.parts.proofs.Laws.Live.{seats-most}
-use Rattle.replay.specs.Table.{strikesAt, span, noStrikers, marked, strikersOf, toldBy, Way, planIn, takenIn, handedIn, calledIn, tableIn, toldIn, wayOf, takenOf, afterRead, readText, wayAfter, textAfter, placeFor, Open, Ready, Advanced}
+use Rattle.replay.specs.Table.{strikesAt, span, noStrikers, marked, strikersOf, toldBy, Way, planIn, takenIn, handedIn, calledIn, tableIn, toldIn, wayOf, takenOf, afterRead, readText, wayAfter, textAfter}
 use Rattle.replay.specs.declared.calls.Call.{Call}
 use Rattle.replay.specs.declared.going.Plan.{Plan}
 use Rattle.replay.specs.declared.going.Going.{Going}
@@ -76,42 +70,3 @@ advanced-named g ys os l y t r zs us a b c d =
       d .0 ∙ ap (λ (v : Live). afterRead w (g .read) h (takenOf v y) t) a ∙ ap (λ (v : Dispatch). afterRead w (g .read) h (takenOf (takenIn h ys .strikers) v) t) (c .0) ∙ ap (λ (v : Told). afterRead w (g .read) h (takenIn h ys) v) b,
       (c .1, d .1 ∙ ap (λ (v : Live). laid os (g .used) (readText w (g .read) h (takenOf v y) t)) a ∙ ap (λ (v : Dispatch). laid os (g .used) (readText w (g .read) h (takenOf (takenIn h ys .strikers) v) t)) (c .0) ∙ ap (λ (v : Told). laid os (g .used) (readText w (g .read) h (takenIn h ys) v)) b),
     )
-
--- ---- the next record
-
-fits-place : (n : ℕ) (e : Event) → n ≤ 64 → EventFits n e → placeFor e < 64
-fits-place n Delivered few x = omega arith
-fits-place n LostForAddressee few x = omega arith
-fits-place n LostForAll few x = omega arith
-fits-place n (Timer p) few x = omega (arith, x)
-fits-place n (Queue p q) few x = omega (arith, x .station-in)
-
--- it calls a station of the table
-pub next-place : (w : Way) (s : List ℕ) → planIn w (readRecord (seats (w .n)) s (w .at)) .place < 64
-unfolding planIn
-next-place w s = go (readRecord (seats (w .n)) s (w .at)) refl
-  where
-    go : (r : Read) → readRecord (seats (w .n)) s (w .at) ≡ r → planIn w r .place < 64
-    go End e = omega arith
-    go (Refused k) e = omega arith
-    go (Good v next) e = fits-place (seats (w .n)) v (seats-most (w .n)) (read-fits (seats (w .n)) s (w .at) v next e)
-
-pub ready-named : (r : Going) (g : Going) (s : List ℕ) (room : ℕ) → Open g room → (wayOf r ≡ wayOf g) × (r .read ≡ readRecord (seats (g .n)) s (g .at)) → Ready r room
-ready-named r g s room o e =
-    let d : r .done ≡ g .done = ap (λ (w : Way). w .done) (e .0) in
-    let k : r .k ≡ g .k = ap (λ (w : Way). w .k) (e .0) in
-    let m : r .most ≡ g .most = ap (λ (w : Way). w .most) (e .0) in
-    let u : r .used ≡ g .used = ap (λ (w : Way). w .used) (e .0) in
-    let p : planIn (wayOf r) (r .read) ≡ planIn (wayOf g) (readRecord (seats (g .n)) s (g .at)) = ap (λ (w : Way). planIn w (r .read)) (e .0) ∙ ap (planIn (wayOf g)) (e .1) in
-    (omega (arith, o .0), (omega (arith, o .1 .0), (omega (arith, o .1 .1), subst (λ (i : ℕ). i < 64) (sym (ap (λ (q : Plan). q .place) p)) (next-place (wayOf g) s))))
-
-pub next-named : (r y g : Going) (s : List ℕ) (ys zs : List Station) (os us : List ℕ) → (wayOf r ≡ wayOf g) × (r .read ≡ readRecord (seats (g .n)) s (g .at))
-    → (wayOf y ≡ wayAfter (wayOf r) (r .read) ys) × ((zs ≡ tableIn (planIn (wayOf r) (r .read)) ys) × (us ≡ laid os (r .used) (textAfter (wayOf r) (r .read) ys)))
-    → Advanced (wayOf g) s ys os (wayOf y) zs us
-next-named r y g s ys zs os us e x = (
-  x .0 ∙ ap (λ (w : Way). wayAfter w (r .read) ys) (e .0) ∙ ap (λ (d : Read). wayAfter (wayOf g) d ys) (e .1),
-  (
-    x .1 .0 ∙ ap (λ (w : Way). tableIn (planIn w (r .read)) ys) (e .0) ∙ ap (λ (d : Read). tableIn (planIn (wayOf g) d) ys) (e .1),
-    x .1 .1 ∙ ap (λ (w : Way). laid os (w .used) (textAfter w (r .read) ys)) (e .0) ∙ ap (λ (d : Read). laid os (g .used) (textAfter (wayOf g) d ys)) (e .1),
-  ),
-)

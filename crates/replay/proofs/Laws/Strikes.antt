@@ -15,7 +15,7 @@ use Rattle.parts.specs.declared.live.Live.{Live}
 use Rattle.parts.specs.declared.moves.Event.the-variants.{Heard}
 use Rattle.parts.specs.declared.moves.State.the-variants.{Idle, Alone, Excluded}
 use Rattle.parts.proofs.Laws.Choose.{pick-true, pick-false}
-use Rattle.parts.specs.Heard.{newly}
+use Rattle.parts.specs.Live.{newly}
 use Rattle.station.specs.Stations.{stateOf, awaitedOf, quiet, alone, answered, moved, unless}
 use Rattle.station.specs.Strike.{Struck, strike, leave, nothingGone, giveUpTo, told, stopped}
 use Rattle.station.specs.Heard.{checks, acknowledged, landed, acknowledge, strikeOther, strikeHeard, failed, nothingMore, stored, silent, handle, respond, heard, frameRule}
