@@ -18,6 +18,7 @@ use records::record::open;
 use station::station::Answer;
 use station::station::Payload;
 use station::station::Station;
+use wholeness::whole::whole;
 
 // The information of a heard frame whose message is stored.
 pub fn heard_information(packet: &[u8], p: Payload) -> &[u8]
@@ -69,10 +70,10 @@ pub fn frame(
     }
     let mut addresses = [0u64; 64];
     let s = open(rec, &mut addresses);
-    let n = s.n as usize;
-    if n == 0 {
+    if !whole(s) {
         return 35;
     }
+    let n = s.n as usize;
     let a = packet_rule(s, members(&addresses, n), from, to, packet);
     if a.number != 0 {
         return a.number;

@@ -8,6 +8,7 @@ use parts::request::Request;
 use records::layout::STORE;
 use records::record::open;
 use records::record::save;
+use wholeness::whole::whole;
 
 // What a driver's numbers ask for: its `to` is an address.
 fn request_of(ring: &[u64], to: u64, priority: usize, channel: usize, length: usize) -> Request
@@ -38,10 +39,10 @@ pub fn queue(
     }
     let mut addresses = [0u64; 64];
     let s = open(rec, &mut addresses);
-    let n = s.n as usize;
-    if n == 0 {
+    if !whole(s) {
         return 35;
     }
+    let n = s.n as usize;
     let q = request_of(members(&addresses, n), to, priority, channel, payload.len());
     let a = s.queue(q);
     if a.number != 0 {

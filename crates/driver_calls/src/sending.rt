@@ -17,6 +17,7 @@ use records::layout::STORE;
 use records::record::open;
 use records::record::save;
 use station::station::Answer;
+use wholeness::whole::whole;
 
 // Writes what an answer of 0 leaves: the frame, the station, and what is told.
 pub fn settle(
@@ -58,10 +59,10 @@ pub fn start(rec: &mut [u8], out: &mut [u8], told: &mut [u64; 84]) -> u32
     }
     let mut addresses = [0u64; 64];
     let s = open(rec, &mut addresses);
-    let n = s.n as usize;
-    if n == 0 {
+    if !whole(s) {
         return 35;
     }
+    let n = s.n as usize;
     let a = s.start();
     if a.number != 0 {
         return a.number;
@@ -79,10 +80,10 @@ pub fn timer(rec: &mut [u8], store: &[u8], out: &mut [u8], told: &mut [u64; 84])
     }
     let mut addresses = [0u64; 64];
     let s = open(rec, &mut addresses);
-    let n = s.n as usize;
-    if n == 0 {
+    if !whole(s) {
         return 35;
     }
+    let n = s.n as usize;
     let a = s.timer();
     if a.number != 0 {
         return a.number;

@@ -8,6 +8,7 @@ use driver_buffers::telling::tell_taken;
 use records::layout::STORE;
 use records::record::open;
 use records::record::save;
+use wholeness::whole::whole;
 
 // Lays a taken payload over the start of take's room, where it fits.
 pub fn lay_taken(room: &mut [u8], part: &[u8])
@@ -34,10 +35,10 @@ pub fn take(
     }
     let mut addresses = [0u64; 64];
     let s = open(rec, &mut addresses);
-    let n = s.n as usize;
-    if n == 0 {
+    if !whole(s) {
         return 35;
     }
+    let n = s.n as usize;
     let a = s.take(channel, room.len());
     if a.number != 0 {
         return a.number;

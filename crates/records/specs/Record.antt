@@ -11,7 +11,7 @@ use Rattle.codec.specs.Octets.{octets, numberAt, zeros, firstNonzero}
 use Rattle.codec.specs.Ring.{Ring, RingRead, count, fileOctets, readRing, noRing}
 use Rattle.parts.specs.Choose.{allOf}
 use Rattle.station.specs.Stations.{made}
-use Rattle.wholeness.specs.Whole.{whole}
+use Rattle.wholeness.specs.Whole.{restBlank, whole}
 use Rattle.station.specs.declared.station.Counts.{Counts}
 use Rattle.station.specs.declared.station.Station.{Station}
 use Rattle.records.specs.Layout.{ringRoom, ownAt, lostAt, givenUpAt, liveAt, sendsAt, receivesAt, recordLength}
@@ -105,7 +105,10 @@ readRecord s =
     ∷ (not (whole (stationOf s)), notWhole)
     ∷ [])
 
--- what opening a record leaves: its station, without members where the record is not whole, and their addresses first in an array
+-- what opening a record leaves: a station that is whole exactly where the record is; then it is the record's, and its members' addresses
+-- stand first in an array. Nothing follows the messages of its lists, which is what asking whether it is whole requires
 pub record Opened (s addresses : List ℕ) (st : Station) : Type 0 where
-  pub station : st ≡ readRecord s .station
-  pub members : take (st .n) addresses ≡ take (readRecord s .ring .n) (readRecord s .ring .addresses)
+  pub blank : (restBlank (st .sends) ≡ true) × (restBlank (st .receives) ≡ true)
+  pub same-test : whole st ≡ readRecord s .ok
+  pub station : whole st ≡ true → st ≡ readRecord s .station
+  pub members : whole st ≡ true → take (st .n) addresses ≡ take (readRecord s .ring .n) (readRecord s .ring .addresses)

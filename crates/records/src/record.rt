@@ -52,7 +52,6 @@ use parts::live::Live;
 use station::station::Counts;
 use station::station::Station;
 use station::station::Turn;
-use wholeness::whole::whole;
 
 // Whether only zeros follow the ring file, which has `n` octets.
 pub fn pad_good(s: &[u8], n: usize) -> bool
@@ -134,8 +133,8 @@ pub fn station_from(s: &[u8], n: usize, limit: u8) -> Station
     }
 }
 
-// The station of a record, and its ring's addresses over the start of an array: a station without members
-// where the record is not whole.
+// The station of a record, and its ring's addresses over the start of an array: one that is not whole where the
+// record is not.
 pub fn open(s: &[u8], addresses: &mut [u64]) -> Station
     requires { ⌜ 64 ≤ length (now addresses) ⌝ }
     ensures { λ r. ⌜ Opened (now (s .entry)) (now (addresses .exit)) r ⌝ }
@@ -147,11 +146,7 @@ pub fn open(s: &[u8], addresses: &mut [u64]) -> Station
     if !octets_good(s, head.octets(), addresses) {
         return Station::new(0, 0, 0);
     }
-    let station = station_from(s, head.count(), head.limit as u8);
-    if !whole(station) {
-        return Station::new(0, 0, 0);
-    }
-    station
+    station_from(s, head.count(), head.limit as u8)
 }
 
 // Own position, turn, counts and live set.

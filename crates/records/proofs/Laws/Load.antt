@@ -4,7 +4,7 @@ use mathlib.Core.Bool.{Bool, true, false, cond, not, true≢false}
 use mathlib.Core.List.{List, [], _∷_, _++_}
 use Prim.Native.Nat.{ℕ, _+_, _≤_}
 use native.Mathlib.Omega.{arith}
-use borrow.Author.Tests.{eq-eqb, eqb-true, leb-true, not-true, not-false}
+use borrow.Author.Tests.{eq-eqb, eqb-true, not-true, not-false}
 use lib.Dec.{eqb}
 use lib.ListN.{length, take, drop, take-append-drop}
 use lib.Seq.{length-take-le}
@@ -13,13 +13,14 @@ use Rattle.codec.specs.Octets.{laid}
 use Rattle.codec.specs.Ring.{RingRead, count, limit, addressesOf, filled, ringOf}
 use Rattle.codec.proofs.Laws.Bits.{bits-below}
 use Rattle.codec.proofs.Laws.Ring.{read-zero, read-good, few-members, length-addresses, members-filled, members-laid}
+use Rattle.parts.specs.Choose.{pick, allOf}
 use Rattle.parts.proofs.Laws.Tests.{held, hold}
 use Rattle.wholeness.specs.Whole.{restBlank, ringGood, whole}
 use Rattle.station.specs.Stations.{made}
 use Rattle.station.specs.declared.station.Station.{Station}
 use Rattle.records.specs.Layout.{recordLength, ringRoom}
 use Rattle.records.specs.Record.{Loaded, fileLength, fileOf, ringFrom, stationFrom, stationOf, fieldsGood, restsGood, octetsGood, notWhole, readRecord, Opened}
-use Rattle.records.proofs.Laws.Rest.{whole-rests, station-rests}
+use Rattle.records.proofs.Laws.Rest.{blanks, whole-rests, station-rests}
 
 abbrev pub wholeOf : RingRead → Station → Loaded
 wholeOf r st = record { ok = true; ring = r .ring; station = st }
@@ -141,12 +142,18 @@ pub record Held (s addresses : List ℕ) (n : ℕ) (st : Station) : Type 0 where
 
 -- ---- opening it, step by step
 
+-- a station of no ring is not whole
+none-whole : whole (made 0 0 0) ≡ false
+unfolding whole ringGood allOf pick
+none-whole = refl
+
 pub not-opened : (s addresses : List ℕ) → readRecord s .ok ≡ false → Opened s addresses (made 0 0 0)
 not-opened s addresses e =
-    let none : readRecord s ≡ notWhole = no-record s e in
     record {
-      station = ap (λ (l : Loaded). l .station) (sym none);
-      members = ap (λ (l : Loaded). take (l .ring .n) (l .ring .addresses)) (sym none);
+      blank = (blanks 0 16, blanks 0 16);
+      same-test = none-whole ∙ sym e;
+      station = λ w. absurd (true≢false (sym w ∙ none-whole));
+      members = λ w. absurd (true≢false (sym w ∙ none-whole));
     }
 
 pub bad-length : (s : List ℕ) → (length s ≡ recordLength → ⊥) → readRecord s .ok ≡ false
@@ -181,65 +188,54 @@ module _ (s : List ℕ) (sized : length s ≡ recordLength) where
       pub blank-enough : (restBlank (st .sends) ≡ true) × (restBlank (st .receives) ≡ true)
       blank-enough = rw from (station-rests s n r (omega arith) good-rests)
 
-      module _ (counted : n ≡ count s) (limited : r ≡ limit s) (w : Bool) (asked : w ≡ whole st) where
+      module _ (counted : n ≡ count s) (limited : r ≡ limit s) where
         station-is : st ≡ stationOf s
         station-is =
             from
             ∙ ap (λ (k : ℕ). stationFrom s k r) (counted ∙ sym (ring-count s sized good-ring))
             ∙ ap (stationFrom s (ringFrom s .ring .n)) (limited ∙ sym (ring-limit s sized good-ring))
 
-        pub bad-station : not w ≡ true → readRecord s .ok ≡ false
-        bad-station e =
-            not-ok s (λ h. true≢false (sym (h .good-station) ∙ ap whole (sym station-is) ∙ sym asked ∙ not-true _ e))
+        reads : whole st ≡ true → readRecord s ≡ wholeOf (ringFrom s) (stationOf s)
+        reads e = record-good s sized good-ring good-fields (ap whole (sym station-is) ∙ e)
 
-        pub opened : not w ≡ false → (l addresses : List ℕ) → addresses ≡ laid l 0 (addressesOf (fileOf s) (count (fileOf s))) → Opened s addresses st
-        opened e l addresses read =
-            let reads : readRecord s ≡ wholeOf (ringFrom s) (stationOf s) =
-            record-good s sized good-ring good-fields (ap whole (sym station-is) ∙ sym asked ∙ not-false _ e) in
+        test-is : (b : Bool) → whole st ≡ b → b ≡ readRecord s .ok
+        test-is true e = sym (ap (λ (x : Loaded). x .ok) (reads e))
+        test-is false e = sym (not-ok s (λ h. true≢false (sym (h .good-station) ∙ ap whole (sym station-is) ∙ e)))
+
+        pub opened : (l addresses : List ℕ) → addresses ≡ laid l 0 (addressesOf (fileOf s) (count (fileOf s))) → Opened s addresses st
+        opened l addresses read =
             let laid-over : addresses ≡ laid l 0 (addressesOf (fileOf s) (count s)) =
             read ∙ ap (λ (k : ℕ). laid l 0 (addressesOf (fileOf s) k)) (file-count s sized good-ring) in
             record {
-              station = station-is ∙ ap (λ (x : Loaded). x .station) (sym reads);
-              members =
+              blank = blank-enough;
+              same-test = test-is (whole st) refl;
+              station = λ w. station-is ∙ ap (λ (x : Loaded). x .station) (sym (reads w));
+              members = λ w.
                   ap (λ (x : Station). take (x .n) addresses) station-is
                   ∙ ap (λ (k : ℕ). take k addresses) (ring-count s sized good-ring)
                   ∙ members-laid (fileOf s) l addresses (count s) laid-over
                   ∙ sym (ring-members s sized good-ring)
                   ∙ ap (λ (k : ℕ). take k (ringFrom s .ring .addresses)) (sym (ring-count s sized good-ring))
-                  ∙ ap (λ (x : Loaded). take (x .ring .n) (x .ring .addresses)) (sym reads);
+                  ∙ ap (λ (x : Loaded). take (x .ring .n) (x .ring .addresses)) (sym (reads w));
             }
 
--- ---- what an opened record's station says of it
+-- ---- what the test of an opened record's station says of it
 
-module _ {s addresses : List ℕ} {st : Station} (o : Opened s addresses st) where
-  size : readRecord s .ok ≡ true → st .n ≡ ringFrom s .ring .n
-  size ok = ap (λ (x : Station). x .n) (o .station ∙ ap (λ (l : Loaded). l .station) (whole-record s ok .loaded))
+module _ {s addresses : List ℕ} {st : Station} (o : Opened s addresses st) {w : Bool} (asked : w ≡ whole st) where
+  -- it is not whole: neither is the record
+  pub none-held : not w ≡ true → readRecord s .ok ≡ false
+  none-held e = sym (o .same-test) ∙ sym asked ∙ not-true _ e
 
-  some-members : readRecord s .ok ≡ true → 2 ≤ st .n
-  unfolding whole ringGood
-  some-members ok =
-      let good : 2 ≤ stationOf s .n = leb-true _ _ (held _ (held _ (whole-record s ok .good-station) .0) .0) in
-      rw (size ok) good
-
-  -- without members: the record is not whole
-  pub none-held : st .n ≡ 0 → readRecord s .ok ≡ false
-  none-held z = go (readRecord s .ok) refl
-    where
-      go : (b : Bool) → readRecord s .ok ≡ b → b ≡ false
-      go false e = refl
-      go true e = absurd (omega (arith, z, some-members e))
-
-  -- with members: it is, and they and the station are held
-  pub opened-held : (st .n ≡ 0 → ⊥) → Held s addresses (st .n) st
-  opened-held some = go (readRecord s .ok) refl
-    where
-      go : (b : Bool) → readRecord s .ok ≡ b → Held s addresses (st .n) st
-      go false e = absurd (some (ap (λ (x : Station). x .n) (o .station ∙ ap (λ (l : Loaded). l .station) (no-record s e))))
-      go true e =
-          record {
-            sized = whole-record s e .sized;
-            few = rw (size e) (few-members (fileOf s));
-            ok = e;
-            members = o .members;
-            station = o .station;
-          }
+  -- it is: so is the record, and its members and its station are held
+  pub opened-held : not w ≡ false → Held s addresses (st .n) st
+  opened-held e =
+      let is : whole st ≡ true = sym asked ∙ not-false _ e in
+      let ok : readRecord s .ok ≡ true = sym (o .same-test) ∙ is in
+      let r = whole-record s ok in
+      record {
+        sized = r .sized;
+        few = rw (ap (λ (x : Station). x .n) (o .station is ∙ ap (λ (l : Loaded). l .station) (r .loaded))) (few-members (fileOf s));
+        ok = ok;
+        members = o .members is;
+        station = o .station is;
+      }

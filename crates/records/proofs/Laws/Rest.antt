@@ -128,7 +128,7 @@ list-rest s at n own h e =
 
 -- ---- what follows a list's messages, as it is read
 
-blanks : (k n : ℕ) → every isBlank (drop k (replicate n blank)) ≡ true
+pub blanks : (k n : ℕ) → every isBlank (drop k (replicate n blank)) ≡ true
 unfolding isBlank
 blanks zero n = each-same isBlank blank (hold _ (refl, (refl, (refl, (refl, (refl, tt)))))) n
 blanks (suc k) zero = each-none isBlank

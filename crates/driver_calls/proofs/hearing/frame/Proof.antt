@@ -21,13 +21,16 @@ good-buffers-at : (c : tie.Else1) → badBuffers (length (c .before .before .bef
 good-buffers-at c = sym (c .before .bad-buffers .ensures) ∙ c .if1 .left
 
 held-at : (c : tie.Else2) → Held (c .before .before .before .before .before .before .before .before .before .before .before .before .args .rec .now) (c .before .before .before .open .last .1 .0) (c .before .before .before .open .result .n) (c .before .before .before .open .result)
-held-at c = opened-held (c .before .before .before .open .ensures) (c .if2 .left)
+held-at c = opened-held (c .before .before .before .open .ensures) (c .before .whole .ensures) (c .if2 .left)
 
 slice-aggregate-open : tie.Need-slice-aggregate-open
 slice-aggregate-open c = search needs
 
 open-requires : tie.Need-open-requires
 open-requires c κs = search needs
+
+whole-requires : tie.Need-whole-requires
+whole-requires c κs = c .before .open .ensures .blank
 
 cast-n : tie.Need-cast-n
 cast-n c = search needs
@@ -36,7 +39,7 @@ same-length : tie.Need-same-length
 same-length c = search needs
 
 returns-2 : tie.Need-returns-2
-returns-2 c = not-heard (refused-35 (good-buffers-at (c .before .before .before .before .before .before)) (none-held (c .before .before .before .open .ensures) (c .if2 .taken)))
+returns-2 c = not-heard (refused-35 (good-buffers-at (c .before .before .before .before .before .before)) (none-held (c .before .before .before .open .ensures) (c .before .whole .ensures) (c .if2 .taken)))
 
 slice-aggregate-members : tie.Need-slice-aggregate-members
 slice-aggregate-members c = search needs
@@ -45,14 +48,14 @@ members-requires : tie.Need-members-requires
 members-requires c κs = search needs
 
 packet-rule-requires : tie.Need-packet-rule-requires
-packet-rule-requires c κs = few-held (held-at (c .before .before)) _ (c .members .ensures)
+packet-rule-requires c κs = few-held (held-at (c .before .before .before)) _ (c .members .ensures)
 
 same-length-2 : tie.Need-same-length-2
 same-length-2 c = search needs
 
 returns-3 : tie.Need-returns-3
 returns-3 c =
-    let e = c .before .before .before .before .before in
+    let e = c .before .before .before .before .before .before in
     heard-refused _ (good-buffers-at (e .before .before .before .before .before .before)) (held-at e) (c .before .before .before .members .ensures) (c .before .before .packet-rule .ensures) (c .if3 .taken)
 
 slice-aggregate-members-2 : tie.Need-slice-aggregate-members-2
@@ -66,7 +69,7 @@ information-of-requires c κs = search needs
 
 settle-requires : tie.Need-settle-requires
 settle-requires c κs =
-    let e = c .before .before .before .before .before .before .before .before .before .before .before .before in
+    let e = c .before .before .before .before .before .before .before .before .before .before .before .before .before in
     let h = held-at e .sized in
     (omega (arith, h), (good-buffers _ _ (good-buffers-at (e .before .before .before .before .before .before)) .1, information-short _ _ _ (c .information-of .ensures)))
 
@@ -87,7 +90,7 @@ same-length-5 c = search needs
 
 returns-4 : tie.Need-returns-4
 returns-4 c =
-    let e = c .before .before .before .before .before .before .before .before .before .before .before .before .before .before .before .before .before .before .before .before .before .before in
+    let e = c .before .before .before .before .before .before .before .before .before .before .before .before .before .before .before .before .before .before .before .before .before .before .before in
     heard-done _ (good-buffers-at (e .before .before .before .before .before .before)) (held-at e) (c .before .before .before .before .before .before .before .before .before .before .before .before .before .before .before .before .before .before .before .before .members .ensures) (c .before .before .before .before .before .before .before .before .before .before .before .before .before .before .before .before .before .before .before .packet-rule .ensures) (c .before .before .before .before .before .before .before .before .before .before .before .before .before .before .before .before .before .if3 .left) _ _ _ _ _ _ _
     (c .before .before .before .before .before .before .before .before .before .before .before .before .members2 .ensures)
     (c .before .before .before .before .before .before .before .before .before .before .information-of .ensures)
@@ -103,9 +106,10 @@ frame-spec =
     returns
     slice-aggregate-open
     open-requires
-    cast-n
+    whole-requires
     same-length
     returns-2
+    cast-n
     slice-aggregate-members
     members-requires
     packet-rule-requires

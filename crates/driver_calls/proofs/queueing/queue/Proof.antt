@@ -20,13 +20,16 @@ good-buffers-at : (c : tie.Else1) → badStore (length (c .before .before .befor
 good-buffers-at c = store-good (c .if1 .left)
 
 held-at : (c : tie.Else2) → Held (c .before .before .before .before .before .before .before .before .before .before .args .rec .now) (c .before .before .before .open .last .1 .0) (c .before .before .before .open .result .n) (c .before .before .before .open .result)
-held-at c = opened-held (c .before .before .before .open .ensures) (c .if2 .left)
+held-at c = opened-held (c .before .before .before .open .ensures) (c .before .whole .ensures) (c .if2 .left)
 
 slice-aggregate-open : tie.Need-slice-aggregate-open
 slice-aggregate-open c = search needs
 
 open-requires : tie.Need-open-requires
 open-requires c κs = search needs
+
+whole-requires : tie.Need-whole-requires
+whole-requires c κs = c .before .open .ensures .blank
 
 cast-n : tie.Need-cast-n
 cast-n c = search needs
@@ -35,7 +38,7 @@ same-length : tie.Need-same-length
 same-length c = search needs
 
 returns-2 : tie.Need-returns-2
-returns-2 c = not-queued (refused-35 (good-buffers-at (c .before .before .before .before .before .before)) (none-held (c .before .before .before .open .ensures) (c .if2 .taken)))
+returns-2 c = not-queued (refused-35 (good-buffers-at (c .before .before .before .before .before .before)) (none-held (c .before .before .before .open .ensures) (c .before .whole .ensures) (c .if2 .taken)))
 
 slice-aggregate-members : tie.Need-slice-aggregate-members
 slice-aggregate-members c = search needs
@@ -54,14 +57,14 @@ same-length-2 c = search needs
 
 returns-3 : tie.Need-returns-3
 returns-3 c =
-    let e = c .before .before .before .before .before .before in
+    let e = c .before .before .before .before .before .before .before in
     let a = e .before .before .before .before .before .before .before .before .before .before .args in
     let b = queue-answer (held-at e) (λ (ring : List ℕ). requestOf ring (a .to) (a .priority) (a .channel) (length (a .payload .now))) _ _ _ (c .before .before .before .before .members .ensures) (c .before .before .before .request-of .ensures) (c .before .before .queue .ensures) in
     not-queued (refused-own (good-buffers-at (e .before .before .before .before .before .before)) (held-at e .ok) _ b (c .if3 .taken))
 
 save-requires : tie.Need-save-requires
 save-requires c κs =
-    let h = held-at (c .before .before .before .before .before .before .before .before) .sized in
+    let h = held-at (c .before .before .before .before .before .before .before .before .before) .sized in
     omega (arith, h)
 
 put-queued-requires : tie.Need-put-queued-requires
@@ -75,7 +78,7 @@ same-length-4 c = search needs
 
 returns-4 : tie.Need-returns-4
 returns-4 c =
-    let e = c .before .before .before .before .before .before .before .before .before .before .before .before .before .before .before in
+    let e = c .before .before .before .before .before .before .before .before .before .before .before .before .before .before .before .before in
     let a = e .before .before .before .before .before .before .before .before .before .before .args in
     let b = queue-answer (held-at e) (λ (ring : List ℕ). requestOf ring (a .to) (a .priority) (a .channel) (length (a .payload .now))) _ _ _ (c .before .before .before .before .before .before .before .before .before .before .before .before .before .members .ensures) (c .before .before .before .before .before .before .before .before .before .before .before .before .request-of .ensures) (c .before .before .before .before .before .before .before .before .before .before .before .queue .ensures) in
     all-queued _ _ _ (done (good-buffers-at (e .before .before .before .before .before .before)) (held-at e .ok) _ b (c .before .before .before .before .before .before .before .before .before .if3 .left)) b (c .before .before .before .before .before .before .save .ensures) (c .before .before .put-queued .ensures)
@@ -87,9 +90,10 @@ queue-spec =
     returns
     slice-aggregate-open
     open-requires
-    cast-n
+    whole-requires
     same-length
     returns-2
+    cast-n
     slice-aggregate-members
     members-requires
     request-of-requires

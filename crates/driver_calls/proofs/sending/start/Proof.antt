@@ -21,13 +21,16 @@ good-buffers-at : (c : tie.Else1) → badOut (length (c .before .before .before 
 good-buffers-at c = le-ltb _ _ (c .if1 .left)
 
 held-at : (c : tie.Else2) → Held (c .before .before .before .before .before .before .before .before .before .args .rec .now) (c .before .before .before .open .last .1 .0) (c .before .before .before .open .result .n) (c .before .before .before .open .result)
-held-at c = opened-held (c .before .before .before .open .ensures) (c .if2 .left)
+held-at c = opened-held (c .before .before .before .open .ensures) (c .before .whole .ensures) (c .if2 .left)
 
 slice-aggregate-open : tie.Need-slice-aggregate-open
 slice-aggregate-open c = search needs
 
 open-requires : tie.Need-open-requires
 open-requires c κs = search needs
+
+whole-requires : tie.Need-whole-requires
+whole-requires c κs = c .before .open .ensures .blank
 
 cast-n : tie.Need-cast-n
 cast-n c = search needs
@@ -36,7 +39,7 @@ same-length : tie.Need-same-length
 same-length c = search needs
 
 returns-2 : tie.Need-returns-2
-returns-2 c = not-sent (refused-35 (good-buffers-at (c .before .before .before .before .before .before)) (none-held (c .before .before .before .open .ensures) (c .if2 .taken)))
+returns-2 c = not-sent (refused-35 (good-buffers-at (c .before .before .before .before .before .before)) (none-held (c .before .before .before .open .ensures) (c .before .whole .ensures) (c .if2 .taken)))
 
 start-requires : tie.Need-start-requires
 start-requires c κs = search needs
@@ -46,7 +49,7 @@ same-length-2 c = search needs
 
 returns-3 : tie.Need-returns-3
 returns-3 c =
-    let e = c .before .before .before in
+    let e = c .before .before .before .before in
     station-refuses startRule (λ d. []) (good-buffers-at (e .before .before .before .before .before .before)) (held-at e) _ (c .before .before .start .ensures) (c .if3 .taken)
 
 slice-aggregate-members : tie.Need-slice-aggregate-members
@@ -60,7 +63,7 @@ slice-aggregate-settle c = search needs
 
 settle-requires : tie.Need-settle-requires
 settle-requires c κs =
-    let e = c .before .before .before .before .before .before .before .before .before in
+    let e = c .before .before .before .before .before .before .before .before .before .before in
     let h = held-at e .sized in
     (omega (arith, h), (e .before .before .before .before .before .before .if1 .left, zero-le))
 
@@ -72,7 +75,7 @@ same-length-4 c = search needs
 
 returns-4 : tie.Need-returns-4
 returns-4 c =
-    let e = c .before .before .before .before .before .before .before .before .before .before .before .before .before .before in
+    let e = c .before .before .before .before .before .before .before .before .before .before .before .before .before .before .before in
     station-sends startRule (λ d. []) (good-buffers-at (e .before .before .before .before .before .before)) (held-at e) _ (c .before .before .before .before .before .before .before .before .before .before .before .before .before .start .ensures) (c .before .before .before .before .before .before .before .before .before .before .before .if3 .left) _ [] _ _ _ (c .before .before .before .before .before .before .members .ensures) refl
     (c .before .before .before .before .settle .ensures)
 
@@ -83,9 +86,10 @@ start-spec =
     returns
     slice-aggregate-open
     open-requires
-    cast-n
+    whole-requires
     same-length
     returns-2
+    cast-n
     start-requires
     same-length-2
     returns-3

@@ -22,13 +22,16 @@ good-buffers-at : (c : tie.Else1) → badBuffers (length (c .before .before .bef
 good-buffers-at c = sym (c .before .bad-buffers .ensures) ∙ c .if1 .left
 
 held-at : (c : tie.Else2) → Held (c .before .before .before .before .before .before .before .before .before .before .before .args .rec .now) (c .before .before .before .open .last .1 .0) (c .before .before .before .open .result .n) (c .before .before .before .open .result)
-held-at c = opened-held (c .before .before .before .open .ensures) (c .if2 .left)
+held-at c = opened-held (c .before .before .before .open .ensures) (c .before .whole .ensures) (c .if2 .left)
 
 slice-aggregate-open : tie.Need-slice-aggregate-open
 slice-aggregate-open c = search needs
 
 open-requires : tie.Need-open-requires
 open-requires c κs = search needs
+
+whole-requires : tie.Need-whole-requires
+whole-requires c κs = c .before .open .ensures .blank
 
 cast-n : tie.Need-cast-n
 cast-n c = search needs
@@ -37,7 +40,7 @@ same-length : tie.Need-same-length
 same-length c = search needs
 
 returns-2 : tie.Need-returns-2
-returns-2 c = not-sent (refused-35 (good-buffers-at (c .before .before .before .before .before .before)) (none-held (c .before .before .before .open .ensures) (c .if2 .taken)))
+returns-2 c = not-sent (refused-35 (good-buffers-at (c .before .before .before .before .before .before)) (none-held (c .before .before .before .open .ensures) (c .before .whole .ensures) (c .if2 .taken)))
 
 timer-requires : tie.Need-timer-requires
 timer-requires c κs = search needs
@@ -47,7 +50,7 @@ same-length-2 c = search needs
 
 returns-3 : tie.Need-returns-3
 returns-3 c =
-    let e = c .before .before .before in
+    let e = c .before .before .before .before in
     station-refuses timerRule (informationOf (e .before .before .before .before .before .before .before .before .before .before .before .args .store .now)) (good-buffers-at (e .before .before .before .before .before .before)) (held-at e) _ (c .before .before .timer .ensures) (c .if3 .taken)
 
 slice-aggregate-members : tie.Need-slice-aggregate-members
@@ -61,7 +64,7 @@ information-of-requires c κs = search needs
 
 settle-requires : tie.Need-settle-requires
 settle-requires c κs =
-    let e = c .before .before .before .before .before .before .before .before .before in
+    let e = c .before .before .before .before .before .before .before .before .before .before in
     let h = held-at e .sized in
     (omega (arith, h), (good-buffers _ _ (good-buffers-at (e .before .before .before .before .before .before)) .1, information-short _ _ _ (c .information-of .ensures)))
 
@@ -73,7 +76,7 @@ same-length-4 c = search needs
 
 returns-4 : tie.Need-returns-4
 returns-4 c =
-    let e = c .before .before .before .before .before .before .before .before .before .before .before .before .before .before in
+    let e = c .before .before .before .before .before .before .before .before .before .before .before .before .before .before .before in
     station-sends timerRule (informationOf (e .before .before .before .before .before .before .before .before .before .before .before .args .store .now)) (good-buffers-at (e .before .before .before .before .before .before)) (held-at e) _ (c .before .before .before .before .before .before .before .before .before .before .before .before .before .timer .ensures) (c .before .before .before .before .before .before .before .before .before .before .before .if3 .left) _ _ _ _ _ (c .before .before .before .before .before .before .members .ensures)
     (c .before .before .before .before .before .information-of .ensures)
     (c .before .before .before .before .settle .ensures)
@@ -86,9 +89,10 @@ timer-spec =
     returns
     slice-aggregate-open
     open-requires
-    cast-n
+    whole-requires
     same-length
     returns-2
+    cast-n
     timer-requires
     same-length-2
     returns-3

@@ -18,13 +18,16 @@ good-buffers-at : (c : tie.Else1) → badStore (length (c .before .before .befor
 good-buffers-at c = store-good (c .if1 .left)
 
 held-at : (c : tie.Else2) → Held (c .before .before .before .before .before .before .before .before .before .before .args .rec .now) (c .before .before .before .open .last .1 .0) (c .before .before .before .open .result .n) (c .before .before .before .open .result)
-held-at c = opened-held (c .before .before .before .open .ensures) (c .if2 .left)
+held-at c = opened-held (c .before .before .before .open .ensures) (c .before .whole .ensures) (c .if2 .left)
 
 slice-aggregate-open : tie.Need-slice-aggregate-open
 slice-aggregate-open c = search needs
 
 open-requires : tie.Need-open-requires
 open-requires c κs = search needs
+
+whole-requires : tie.Need-whole-requires
+whole-requires c κs = c .before .open .ensures .blank
 
 cast-n : tie.Need-cast-n
 cast-n c = search needs
@@ -33,7 +36,7 @@ same-length : tie.Need-same-length
 same-length c = search needs
 
 returns-2 : tie.Need-returns-2
-returns-2 c = not-taken (refused-35 (good-buffers-at (c .before .before .before .before .before .before)) (none-held (c .before .before .before .open .ensures) (c .if2 .taken)))
+returns-2 c = not-taken (refused-35 (good-buffers-at (c .before .before .before .before .before .before)) (none-held (c .before .before .before .open .ensures) (c .before .whole .ensures) (c .if2 .taken)))
 
 take-requires : tie.Need-take-requires
 take-requires c κs = search needs
@@ -43,7 +46,7 @@ same-length-2 c = search needs
 
 returns-3 : tie.Need-returns-3
 returns-3 c =
-    let e = c .before .before .before in
+    let e = c .before .before .before .before in
     let a = e .before .before .before .before .before .before .before .before .before .before .args in
     let b = take-answer (held-at e) (a .channel) (a .room .now) _ (c .before .before .take .ensures) in
     not-taken (refused-own (good-buffers-at (e .before .before .before .before .before .before)) (held-at e .ok) _ b (c .if3 .taken))
@@ -56,7 +59,7 @@ lay-taken-requires c κs = search needs
 
 save-requires : tie.Need-save-requires
 save-requires c κs =
-    let h = held-at (c .before .before .before .before .before .before .before .before .before .before) .sized in
+    let h = held-at (c .before .before .before .before .before .before .before .before .before .before .before) .sized in
     omega (arith, h)
 
 slice-aggregate-members : tie.Need-slice-aggregate-members
@@ -76,7 +79,7 @@ same-length-4 c = search needs
 
 returns-4 : tie.Need-returns-4
 returns-4 c =
-    let e = c .before .before .before .before .before .before .before .before .before .before .before .before .before .before .before .before in
+    let e = c .before .before .before .before .before .before .before .before .before .before .before .before .before .before .before .before .before in
     let a = e .before .before .before .before .before .before .before .before .before .before .args in
     let b = take-answer (held-at e) (a .channel) (a .room .now) _ (c .before .before .before .before .before .before .before .before .before .before .before .before .before .before .before .take .ensures) in
     all-taken _ _ _ _ _ _ (done (good-buffers-at (e .before .before .before .before .before .before)) (held-at e .ok) _ b (c .before .before .before .before .before .before .before .before .before .before .before .before .before .if3 .left)) b
@@ -93,9 +96,10 @@ take-spec =
     returns
     slice-aggregate-open
     open-requires
-    cast-n
+    whole-requires
     same-length
     returns-2
+    cast-n
     take-requires
     same-length-2
     returns-3

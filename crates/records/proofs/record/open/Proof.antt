@@ -9,7 +9,7 @@ use Rattle.codec.specs.declared.head.HeadBits.{HeadBits}
 use Rattle.codec.proofs.Laws.Bits.{bits-below}
 use Rattle.codec.proofs.Laws.Ring.{few-others}
 use Rattle.records.specs.Record.{octetsGood}
-use Rattle.records.proofs.Laws.Load.{bad-length, bad-octets, bad-station, good-rests, blank-enough, not-opened, opened}
+use Rattle.records.proofs.Laws.Load.{bad-length, bad-octets, good-rests, not-opened, opened}
 use Rattle.records.proofs.record.open.Statement.{statement}
 use Rattle.records.proofs.record.open.Tie as tie
 
@@ -64,37 +64,14 @@ station-from-requires c κs =
     let sized = e .before .before .before .before .before .before .before .if1 .left in
     (omega (arith, sized), omega (arith, counted (c .before), bits-below s 4 6), good-rests s sized (good e))
 
-whole-requires : tie.Need-whole-requires
-whole-requires c κs =
-    let e = c .before .before .before in
-    blank-enough _ (e .before .before .before .before .before .before .before .if1 .left) (good e) _ _ _ (c .station-from .ensures)
-
-new-requires-3 : tie.Need-new-requires-3
-new-requires-3 c κs = search needs
-
 same-length-2 : tie.Need-same-length-2
 same-length-2 c = search needs
 
 returns-3 : tie.Need-returns-3
 returns-3 c =
-    let t = c .before in
-    let e = c .before .before .before .before .before .before in
-    rw (c .new3 .ensures)
-    (not-opened _ _
-    (bad-station _ (e .before .before .before .before .before .before .before .if1 .left) (good e) _ _ _ (c .before .before .before .station-from .ensures) (counted (c .before .before .before .before .before)) (limited (c .before .before .before .before .before .before .before .before .before .before .before .before)) _
-    (c .before .before .whole .ensures)
-    (t .if3 .taken)))
-
-same-length-3 : tie.Need-same-length-3
-same-length-3 c = search needs
-
-returns-4 : tie.Need-returns-4
-returns-4 c =
-    let e = c .before .before .before .before .before in
-    opened _ (e .before .before .before .before .before .before .before .if1 .left) (good e) _ _ _ (c .before .before .station-from .ensures) (counted (c .before .before .before .before)) (limited (c .before .before .before .before .before .before .before .before .before .before .before)) _
-    (c .before .whole .ensures)
-    (c .if3 .left) _ _
-    (c .before .before .before .before .before .before .before .before .octets-good .ensures .1 (not-false _ (e .if2 .left)))
+    let e = c .before .before .before in
+    opened _ (e .before .before .before .before .before .before .before .if1 .left) (good e) _ _ _ (c .station-from .ensures) (counted (c .before .before)) (limited (c .before .before .before .before .before .before .before .before .before)) _ _
+    (c .before .before .before .before .before .before .octets-good .ensures .1 (not-false _ (e .if2 .left)))
 
 pub open-spec : {M : Type 1} → statement M
 open-spec =
@@ -111,9 +88,5 @@ open-spec =
     count-requires
     cast-station-from
     station-from-requires
-    whole-requires
-    new-requires-3
     same-length-2
-    returns-3
-    same-length-3
-    returns-4)
+    returns-3)
