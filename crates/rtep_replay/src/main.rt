@@ -87,7 +87,7 @@ fn stations(r: Replay, out: &mut [u8])
 
 // A day of a ring that is begun.
 fn day(r: Replay, capture: &[u8]) {
-    let mut out = io::large_buffer();
+    let mut out = [0u8; 262144];
     let used = r.put_start(&mut out, 0);
     flush(&out, used);
     let end = records(r, capture, &mut out);
