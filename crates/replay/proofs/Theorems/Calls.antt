@@ -172,7 +172,7 @@ module _ (n : ℕ) (s : List ℕ) (j : ℕ) where
   joined-read k c at going more (Refused x) q = joined-refused k c at x going (refused-is n s at x q .2) q
   joined-read k c at going more (Good e next) q = joined-good k c at e next going q (more (turn c (good e)) next)
 
-  pub joined : (k : ℕ) (c : Course) (at : ℕ) → Joined c k at
+  joined : (k : ℕ) (c : Course) (at : ℕ) → Joined c k at
   joined zero c at =
       let rs : List Record = recordsFrom 0 n s at in
       let none : rs ≡ [] = records-zero n s at in
