@@ -10,18 +10,10 @@ use Rattle.replay.specs.Printed.{startText, stoppedText, endText}
 use Rattle.replay.specs.Runs.{Record, good, bad, Course, stopped, recordNumber, turn, turnText, gone, goneText, begun, dayText, recordsOf}
 use Rattle.replay_theorems.specs.Read.{IsRead, AllRead}
 use Rattle.replay_theorems.specs.Stops.{Stops}
-use Rattle.replay_theorems.proofs.Laws.Turning.{Turned, Turns, over, stops, goes, turns}
+use Rattle.replay_theorems.proofs.Laws.Turning.{Turned, Turns, over, stops, goes, turns, gone-none, gone-one, bad-number}
 use Rattle.replay_theorems.proofs.Laws.Reading.{all-read}
 
 -- ---- a stopped run stays as it is
-
-gone-none : (c : Course) → gone c [] ≡ c
-unfolding gone
-gone-none c = refl
-
-gone-one : (c : Course) (r : Record) (rs : List Record) → gone c (r ∷ rs) ≡ gone (turn c r) rs
-unfolding gone
-gone-one c r rs = refl
 
 text-none : (c : Course) → goneText c [] ≡ []
 unfolding goneText
@@ -114,10 +106,6 @@ splits-later c r rs e s =
           ∙ sym (append-assoc (turnText c r) (goneText (turn c r) b) _)
           ∙ ap (λ (u : List ℕ). u ++ stoppedText (recordNumber (gone c (r ∷ b) .day) (s .refused)) (gone c (r ∷ b) .done)) (sym (text-one c r b));
     }
-
-bad-number : (d : Day) (k : ℕ) → recordNumber d (bad k) ≡ k
-unfolding recordNumber
-bad-number d k = refl
 
 -- a turn of a run that is not stopped: refused, or one more is done
 data Next (c : Course) (r : Record) : Type 0 where
