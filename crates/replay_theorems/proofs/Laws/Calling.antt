@@ -16,6 +16,7 @@ use Rattle.replay.specs.declared.run.Replay.{Replay}
 use Rattle.replay.specs.declared.run.Ran.{Ran}
 use Rattle.replay.proofs.Laws.Starting.{turns-fit}
 use Rattle.replay.proofs.Theorems.Calls.{call-joins}
+use Rattle.replay.proofs.Laws.Running.{gone-none, records-zero}
 use Rattle.replay_theorems.specs.WholeDay.{WholeDay}
 use Rattle.replay_theorems.specs.Calls.{RunCall, CallsFrom, leftBy, written, writtenBy}
 use Rattle.replay_theorems.proofs.Laws.Turning.{run-keeps}
@@ -30,10 +31,6 @@ laid-again l x at h =
 
 no-turns : (room done : ℕ) → room ≡ 0 → turnsIn room done ≡ 0
 no-turns room done e = omega (arith, e, turns-fit room done .0)
-
-silent-none : (c : Course) (n : ℕ) (s : List ℕ) (at : ℕ) → goneText c (recordsFrom 0 n s at) ≡ []
-unfolding goneText recordsFrom
-silent-none c n s at = refl
 
 pub call-writes : (r : Replay) (s out₀ : List ℕ) (at : ℕ) (a : Ran) (out : List ℕ) → RanFrom r s out₀ at a out
     → take (a .used - at) (drop at out) ≡ goneText (courseOf r) (recordsNow r s (length out₀ - at))
@@ -52,7 +49,8 @@ call-writes r s out₀ at a out h = go (leb at (length out₀)) refl
         let past : length out₀ < at = leb-false _ _ t in
         let none : x ≡ [] =
         ap (λ (k : ℕ). goneText (courseOf r) (recordsFrom k (r .n) s (r .at))) (no-turns (length out₀ - at) (r .done) (omega (arith, past)))
-        ∙ silent-none (courseOf r) (r .n) s (r .at) in
+        ∙ ap (goneText (courseOf r)) (records-zero (r .n) s (r .at))
+        ∙ gone-none (courseOf r) .1 in
         ap (λ (k : ℕ). take k (drop at out)) (long ∙ ap length none) ∙ sym none
 
 -- ---- one after the other

@@ -13,22 +13,10 @@ use Rattle.capture.specs.declared.record.Event.{Event}
 use Rattle.capture.specs.declared.record.Read.{Read}
 use Rattle.capture.specs.declared.record.Read.the-variants.{End, Refused, Good}
 use Rattle.capture.proofs.Laws.Reading.{read-end, found, refused-is}
-use Rattle.replay.specs.Running.{nextOffset, offsetBehind}
+use Rattle.replay.specs.Running.{offsetBehind}
 use Rattle.replay.specs.Runs.{Record, good, bad, recordsFrom, Course, stopped, wentOn, turn, gone}
-use Rattle.replay.proofs.Laws.Running.{records-end, records-refused, records-good, gone-stays}
-use Rattle.replay_theorems.proofs.Laws.Turning.{Turns, over, stops, goes, turns, gone-none, gone-one, bad-number}
-
-gone-zero : (n : ℕ) (s : List ℕ) (c : Course) (at : ℕ) → gone c (recordsFrom 0 n s at) ≡ c
-unfolding gone recordsFrom
-gone-zero n s c at = refl
-
-pub offset-none : (k n : ℕ) (s : List ℕ) (at : ℕ) → k ≡ 0 → offsetBehind k n s at ≡ at
-unfolding offsetBehind
-offset-none k n s at e = rw e refl
-
-offset-one : (k n : ℕ) (s : List ℕ) (at : ℕ) (e : Event) (next : ℕ) → readRecord n s at ≡ Good e next → offsetBehind (suc k) n s at ≡ offsetBehind k n s next
-unfolding offsetBehind nextOffset
-offset-one k n s at e next q = ap (λ (r : Read). nextOffset at r (λ (x : ℕ). offsetBehind k n s x)) q
+use Rattle.replay.proofs.Laws.Running.{records-end, records-refused, records-good, gone-stays, gone-one, gone-none, records-zero, offset-zero, offset-next}
+use Rattle.replay_theorems.proofs.Laws.Turning.{Turns, over, stops, goes, turns, bad-number}
 
 module _ (n : ℕ) (s : List ℕ) where
   -- ---- as many as there are octets is enough
@@ -65,7 +53,7 @@ module _ (n : ℕ) (s : List ℕ) where
   first-refused k c at x z q = go (turns c (bad x))
     where
       leaves : gone c (recordsFrom (suc k) n s at) ≡ turn c (bad x)
-      leaves = ap (gone c) (records-refused n s at k x q) ∙ gone-one c (bad x) [] ∙ gone-none (turn c (bad x))
+      leaves = ap (gone c) (records-refused n s at k x q) ∙ gone-one c (bad x) [] ∙ gone-none (turn c (bad x)) .0
 
       go : Turns c (bad x) → First k c at
       go (over o t) = absurd (o z)
@@ -87,7 +75,7 @@ module _ (n : ℕ) (s : List ℕ) where
   first k c at z = go (readRecord n s at) refl
     where
       go : (r : Read) → readRecord n s at ≡ r → First k c at
-      go End q = ends q (ap (gone c) (records-end n s at (suc k) q) ∙ gone-none c)
+      go End q = ends q (ap (gone c) (records-end n s at (suc k) q) ∙ gone-none c .0)
       go (Refused x) q = first-refused k c at x z q
       go (Good e next) q = first-good k c at e next z q
 
@@ -100,13 +88,13 @@ module _ (n : ℕ) (s : List ℕ) where
   none-done : (at done more : ℕ) → more ≡ done → Further at done more
   none-done at done more e =
       let z : more - done ≡ 0 = omega (arith, e) in
-      (omega (arith, e), omega (arith, z, offset-none (more - done) n s at z))
+      (omega (arith, e), omega (arith, z, offset-zero (more - done) n s at z))
 
   one-done : (at done more : ℕ) (e : Event) (next : ℕ) → readRecord n s at ≡ Good e next → Further next (suc done) more → Further at done more
   one-done at done more e next q f =
       let one : more - done ≡ suc (more - suc done) = omega (arith, f .0) in
       let there : offsetBehind (more - done) n s at ≡ offsetBehind (more - suc done) n s next =
-      ap (λ (i : ℕ). offsetBehind i n s at) one ∙ offset-one (more - suc done) n s at e next q in
+      ap (λ (i : ℕ). offsetBehind i n s at) one ∙ offset-next (more - suc done) n s at e next q in
       (omega (arith, f .0), omega (arith, one, there, f .0, f .1, found n s at e next q .next-is))
 
   -- k records
@@ -120,7 +108,7 @@ module _ (n : ℕ) (s : List ℕ) where
       subst (Further at (c .done)) (ap (λ (x : Course). x .done) (sym l)) (one-done at (c .done) _ e next q (more (wentOn c e) next))
 
   pub gone-further : (k : ℕ) → RunsOn k
-  gone-further zero c at = none-done at (c .done) _ (ap (λ (x : Course). x .done) (gone-zero n s c at))
+  gone-further zero c at = none-done at (c .done) _ (ap (λ (x : Course). x .done) (ap (gone c) (records-zero n s at) ∙ gone-none c .0))
   gone-further (suc k) c at = go (eqb (c .number) 0) refl (gone-further k)
     where
       go : (b : Bool) → eqb (c .number) 0 ≡ b → RunsOn k → Further at (c .done) (gone c (recordsFrom (suc k) n s at) .done)

@@ -52,14 +52,6 @@ turns c r = go (eqb (c .number) 0) refl (eqb (recordNumber (c .day) r) 0) refl
 
 -- ---- a run, record by record
 
-pub gone-none : (c : Course) → gone c [] ≡ c
-unfolding gone
-gone-none c = refl
-
-pub gone-one : (c : Course) (r : Record) (rs : List Record) → gone c (r ∷ rs) ≡ gone (turn c r) rs
-unfolding gone
-gone-one c r rs = refl
-
 pub bad-number : (d : Day) (k : ℕ) → recordNumber d (bad k) ≡ k
 unfolding recordNumber
 bad-number d k = refl

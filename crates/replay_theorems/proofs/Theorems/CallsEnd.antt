@@ -20,8 +20,9 @@ use Rattle.replay.specs.Replays.{courseOf, isEnd, isOver, turnsIn, RanFrom}
 use Rattle.replay.specs.declared.run.Replay.{Replay}
 use Rattle.replay.specs.declared.run.Ran.{Ran}
 use Rattle.replay.proofs.Theorems.Calls.{over-all}
+use Rattle.replay.proofs.Laws.Running.{offset-zero}
 use Rattle.replay_theorems.specs.Calls.{BegunFrom, RunCall, CallsFrom, leftBy, AllRoomy}
-use Rattle.replay_theorems.proofs.Laws.Offsets.{Further, offset-none, gone-further, does-one}
+use Rattle.replay_theorems.proofs.Laws.Offsets.{Further, gone-further, does-one}
 use Rattle.replay_theorems.proofs.Theorems.EveryCapture.{capture-passed}
 
 -- ---- whether it is over
@@ -88,7 +89,7 @@ module _ (r : Replay) (s out₀ : List ℕ) (at : ℕ) (a : Ran) (out : List ℕ
   over-stays ends =
       let same : courseOf (a .replay) ≡ courseOf r = h .course ∙ over-all r s ends turns .0 in
       let here : a .replay .at ≡ r .at =
-      h .offset ∙ offset-none (a .replay .done - r .done) (r .n) s (r .at) (omega (arith, ap (λ (c : Course). c .done) same)) in
+      h .offset ∙ offset-zero (a .replay .done - r .done) (r .n) s (r .at) (omega (arith, ap (λ (c : Course). c .done) same)) in
       ap (λ (c : Course). pick (eqb (c .number) 0) (isEnd (readRecord (c .day .n) s (a .replay .at))) true) same
       ∙ ap (λ (i : ℕ). pick (eqb (r .number) 0) (isEnd (readRecord (r .n) s i)) true) here
       ∙ ends
