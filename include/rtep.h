@@ -133,7 +133,10 @@ enum rtep_number {
     RTEP_REFUSED_ROOM = 21,             /* take's room shorter than the message, which stays */
     RTEP_REFUSED_NOT_RUNNING = 22,      /* frame, timer or queue when Offline, Alone or Excluded */
     RTEP_REFUSED_STARTED = 23,          /* start when not Offline */
-    RTEP_REFUSED_NOT_WHOLE = 35         /* a record that is not whole; make: a record buffer not of RTEP_RECORD octets */
+    RTEP_REFUSED_CAPTURE_LENGTH = 24,   /* no call of this library: a capture's length, by rtep_replay */
+    RTEP_REFUSED_CAPTURE_RECORD = 25,   /* the same: a capture's record */
+    RTEP_REFUSED_NOT_WHOLE = 35,        /* a record that is not whole; make: a record buffer not of RTEP_RECORD octets */
+    RTEP_REFUSED_WIRE_FULL = 36         /* rtep_replay: a timer record with 64 frames on the wire */
 };
 
 static inline const char *rtep_reason(uint32_t number)
@@ -163,7 +166,10 @@ static inline const char *rtep_reason(uint32_t number)
     case RTEP_REFUSED_ROOM: return "the room is shorter than the message";
     case RTEP_REFUSED_NOT_RUNNING: return "this station is not started, alone or excluded";
     case RTEP_REFUSED_STARTED: return "this station was started before";
+    case RTEP_REFUSED_CAPTURE_LENGTH: return "the capture's length is not a multiple of 5 octets, or over 60000";
+    case RTEP_REFUSED_CAPTURE_RECORD: return "a record of the capture is none, or names a station outside the ring";
     case RTEP_REFUSED_NOT_WHOLE: return "the record is not whole, or not of its size";
+    case RTEP_REFUSED_WIRE_FULL: return "a timer would put a 65th frame on the wire";
     default: return "no number of RT-EP";
     }
 }

@@ -1,5 +1,5 @@
 -- "One frame is on the wire; a step hands it to every other station and puts the addressee's new frame on the wire."
-use mathlib.Core.Bool.{Bool, true, false, not}
+use mathlib.Core.Bool.{Bool, true, false, not, _&&_}
 use mathlib.Core.List.{List, [], _∷_}
 use Prim.Native.Nat.{ℕ, zero, suc}
 use lib.Dec.{ltb, eqb}
@@ -46,8 +46,21 @@ deliverTo hears b f to =
 abbrev pub others : ℕ → ℕ → Bool
 others from p = not (eqb p from)
 
+-- who hears a frame that is lost for its addressee: everybody but the two
+abbrev pub bystanders : ℕ → ℕ → ℕ → Bool
+bystanders from to p = not (eqb p from) && not (eqb p to)
+
+-- by whether it is lost for its addressee
+abbrev pub hearing : Bool → ℕ → ℕ → ℕ → Bool
+hearing false from to = others from
+hearing true from to = bystanders from to
+
 abbrev pub deliver : Bench → Frame → ℕ → Bench
 deliver b f to = deliverTo (others (b .wire .from)) b f to
+
+abbrev pub isSent : Dispatch → Bool
+isSent Nothing = false
+isSent (Sent frame to) = true
 
 -- with no frame on the wire a step does nothing
 unfoldable pub stepOn : Bench → Dispatch → Bench

@@ -16,7 +16,7 @@ use Rattle.station.specs.Queue.{queueRule}
 use Rattle.station.specs.declared.station.Answer.{Answer}
 use Rattle.station.specs.declared.station.Station.{Station}
 use Rattle.bench.specs.Ring.{nobody}
-use Rattle.bench.specs.Delivery.{others, isQuiet, standsBy, steps}
+use Rattle.bench.specs.Delivery.{isSent, hearing, isQuiet, standsBy, steps}
 use Rattle.bench.specs.Rows.{rowsOn}
 use Rattle.bench.specs.Text.{rowsText}
 use Rattle.bench.specs.Running.{stepsText}
@@ -29,7 +29,7 @@ use Rattle.bench.specs.declared.table.QueuedIn.{QueuedIn}
 
 -- who hears what is handed round
 abbrev pub hears : Handing → ℕ → Bool
-hears h p = others (h .from) p
+hears h p = hearing (h .lost) (h .from) (h .to) p
 
 -- whom it leaves as it is: who does not hear it, and whoever stands by
 abbrev pub leftAsIs : Station → ℕ → Handing → Bool
@@ -53,17 +53,13 @@ abbrev pub noFrame : Frame
 noFrame = Transmit (granting 0 0 0 0)
 
 abbrev pub handingBy : Going → Dispatch → Handing
-handingBy g Nothing = record { n = g .n; m = seats (g .n); frame = noFrame; quiet = true; from = 0; to = 0 }
+handingBy g Nothing = record { n = g .n; m = seats (g .n); frame = noFrame; quiet = true; from = 0; to = 0; lost = false }
 handingBy g (Sent frame to) =
-    record { n = g .n; m = seats (g .n); frame = frame; quiet = isQuiet frame; from = g .wire .from; to = to }
+    record { n = g .n; m = seats (g .n); frame = frame; quiet = isQuiet frame; from = g .wire .from; to = to; lost = false }
 
 -- what is handed round in the next step
 abbrev pub handingOf : Going → Handing
 handingOf g = handingBy g (g .wire .sent)
-
-abbrev pub isSent : Dispatch → Bool
-isSent Nothing = false
-isSent (Sent frame to) = true
 
 -- whether there is a next step
 abbrev pub goesOn : Going → Bool

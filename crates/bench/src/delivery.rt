@@ -34,11 +34,17 @@ pub fn stands_by(s: Station, quiet: bool, to: u8) -> bool
     to != s.own
 }
 
-// Who hears what is handed round: everybody but its sender.
+// Who hears what is handed round: everybody but its sender, and where it is lost for its addressee but the two.
 pub fn hears(h: Handing, p: usize) -> bool
     ensures { λ r. ⌜ r ≡ hears h p ⌝ }
 {
-    p != h.from as usize
+    if p == h.from as usize {
+        return false;
+    }
+    if h.lost {
+        return p != h.to as usize;
+    }
+    true
 }
 
 // Whom it leaves as it is: who does not hear it, and whoever stands by.

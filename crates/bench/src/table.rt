@@ -22,7 +22,8 @@ use station::rules::deeds::Turned;
 use station::station::Station;
 use station::station::Turn;
 
-// A frame that is handed round a ring of `n`, with `m` records in the table; `quiet` where it names no failing station.
+// A frame that is handed round a ring of `n`, with `m` records in the table; `quiet` where it names no failing station, `lost` where
+// its addressee does not hear it.
 pub struct Handing {
     pub n: u8,
     pub m: usize,
@@ -30,6 +31,7 @@ pub struct Handing {
     pub quiet: bool,
     pub from: u8,
     pub to: u8,
+    pub lost: bool,
 }
 
 // A run in progress: `k` of `most` steps are done, and what they print ends at `used`.
@@ -159,6 +161,7 @@ pub fn handing_of(g: Going) -> Handing
                 quiet,
                 from: w.from,
                 to,
+                lost: false,
             }
         }
         Dispatch::Nothing => Handing {
@@ -173,6 +176,7 @@ pub fn handing_of(g: Going) -> Handing
             quiet: true,
             from: 0,
             to: 0,
+            lost: false,
         },
     }
 }

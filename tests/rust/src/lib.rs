@@ -2,6 +2,7 @@
 //! `model` is the independent reading of document 01 that they are held to, plain and slow; `yardstick`
 //! is the one that the benchmarks time them beside, made to be fast.
 
+pub mod days;
 pub mod model;
 pub mod random;
 pub mod yardstick;

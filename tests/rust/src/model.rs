@@ -1,9 +1,11 @@
-//! The oracle: document 01's ring file and packets, and behind them its station and a fault-free ring,
-//! read from the page alone and with no eye to speed.
+//! The oracle: document 01's ring file and packets, and behind them its station, a fault-free ring and a
+//! recorded day, read from the page alone and with no eye to speed.
 //!
 //! A refusal lists everything that is wrong, in the page's order of checks, so that the tests can
 //! count which checks stood alone. The number given back is that of the first.
 
+pub mod capture;
+pub mod day;
 pub mod ring;
 pub mod station;
 

@@ -1,11 +1,11 @@
 -- Laws of a delivered frame, position by position. Assumes nothing.
 use mathlib.Core.Path.{_≡_, refl, sym, ap, _∙_}
-use mathlib.Core.Bool.{Bool, true, false, not}
+use mathlib.Core.Bool.{Bool, true, false, not, _&&_}
 use mathlib.Core.List.{List, [], _∷_}
 use Prim.Native.Nat.{ℕ, zero, suc, _+_, _<_, _≤_}
 use native.Mathlib.Nat.{add-zero, zero-add}
 use native.Mathlib.Omega.{arith}
-use lib.Dec.{ltb}
+use lib.Dec.{ltb, eqb}
 use lib.ListN.{length, getD}
 use borrow.Author.Tests.{lt-ltb, le-ltb, eq-eqb, ne-eqb}
 use Rattle.parts.specs.Choose.{pick}
@@ -17,7 +17,7 @@ use Rattle.station.specs.declared.station.Station.{Station}
 use Rattle.station.specs.declared.station.Answer.{Answer}
 use Rattle.parts.proofs.Laws.Choose.{pick-true, pick-false}
 use Rattle.bench.specs.Ring.{nobody, stationAt}
-use Rattle.bench.specs.Delivery.{handed, delivered, replyOf, deliverTo, others}
+use Rattle.bench.specs.Delivery.{handed, delivered, replyOf, deliverTo, others, hearing}
 use Rattle.bench.specs.declared.ring.Bench.{Bench}
 use Rattle.bench.proofs.Laws.StandsBy.{either}
 
@@ -80,3 +80,14 @@ others-hear from p o = ap not (ne-eqb p from o)
 
 pub sender-not : (from p : ℕ) → p ≡ from → others from p ≡ false
 sender-not from p e = ap not (eq-eqb p from e)
+
+-- who hears a frame, by whether it is lost for its addressee
+pub hearing-sender : (lost : Bool) (from to p : ℕ) → p ≡ from → hearing lost from to p ≡ false
+hearing-sender false from to p e = sender-not from p e
+hearing-sender true from to p e = ap (λ (b : Bool). b && not (eqb p to)) (sender-not from p e)
+
+pub hearing-lost : (lost : Bool) (from to p : ℕ) → lost ≡ true → (p ≡ from → ⊥) → hearing lost from to p ≡ not (eqb p to)
+hearing-lost lost from to p l o = rw l (ap (λ (b : Bool). b && not (eqb p to)) (others-hear from p o))
+
+pub hearing-whole : (lost : Bool) (from to p : ℕ) → lost ≡ false → (p ≡ from → ⊥) → hearing lost from to p ≡ true
+hearing-whole lost from to p l o = rw l (others-hear from p o)

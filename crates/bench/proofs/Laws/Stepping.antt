@@ -15,11 +15,11 @@ use Rattle.parts.specs.declared.frame.Dispatch.the-variants.{Nothing, Sent}
 use Rattle.parts.proofs.Laws.Choose.{pick-true, pick-false, pick-and}
 use Rattle.station.specs.declared.station.Station.{Station}
 use Rattle.bench.specs.Ring.{nobody}
-use Rattle.bench.specs.Delivery.{isQuiet, handed, delivered, step, steps}
+use Rattle.bench.specs.Delivery.{isSent, isQuiet, handed, delivered, step, steps}
 use Rattle.bench.specs.Rows.{rowsOn}
 use Rattle.bench.specs.Text.{rowsText}
 use Rattle.bench.specs.Running.{stepsText, ran}
-use Rattle.bench.specs.Table.{hears, benchIn, noFrame, handingBy, handingOf, isSent, goesOn, stepText, printed, wentOn, stepped}
+use Rattle.bench.specs.Table.{hears, benchIn, noFrame, handingBy, handingOf, goesOn, stepText, printed, wentOn, stepped}
 use Rattle.bench.specs.declared.ring.Wire.{Wire}
 use Rattle.bench.specs.declared.ring.Bench.{Bench}
 use Rattle.bench.specs.declared.running.Ran.{Ran}
@@ -32,7 +32,7 @@ use Rattle.bench.proofs.Laws.Steps.{steps-one, text-one, steps-size}
 use Rattle.bench.proofs.Laws.Going.{UnderWay, ranOf, going-none, going-room, going-on, going-all, going-silent}
 
 abbrev pub handingWith : ℕ → ℕ → Frame → Bool → ℕ → ℕ → Handing
-handingWith n m frame quiet from to = record { n = n; m = m; frame = frame; quiet = quiet; from = from; to = to }
+handingWith n m frame quiet from to = record { n = n; m = m; frame = frame; quiet = quiet; from = from; to = to; lost = false }
 
 abbrev pub wireOf : ℕ → Dispatch → Wire
 wireOf from sent = record { from = from; sent = sent }

@@ -1,16 +1,15 @@
 //! The bench of document 01 in plain Rust, written from the page alone: the same script on standard
 //! input, the same lines on standard output. Its stations are those of `rtep::yardstick`.
 
+use rtep::yardstick::out::{Out, BLOCK, HEADING};
 use rtep::yardstick::ring::Ring;
-use rtep::yardstick::station::record::Kind;
-use std::io::{self, BufRead, BufReader, Write};
+use std::io::{self, BufRead, BufReader};
 
-const BLOCK: usize = 1 << 16;
 /// No good line is longer: `queue` and five numbers of five digits.
 const LONGEST_LINE: usize = 35;
 
 fn main() -> io::Result<()> {
-    let mut session = Session { ring: None, out: Out::new() };
+    let mut session = Session { ring: None, out: Out::new(io::stdout()) };
     let mut input = BufReader::with_capacity(BLOCK, io::stdin().lock());
     // The line being read, as far as the blocks before have it; one octet too long if it is too long.
     let mut begun: Vec<u8> = Vec::with_capacity(LONGEST_LINE + 1);
@@ -83,7 +82,7 @@ fn number(word: &[u8]) -> Option<u16> {
 
 struct Session {
     ring: Option<Ring>,
-    out: Out,
+    out: Out<io::Stdout>,
 }
 
 impl Session {
@@ -91,8 +90,8 @@ impl Session {
         match (Line::read(line), &mut self.ring) {
             (Some(Line::Ring(members @ 2..=64)), None) => {
                 let ring = Ring::start(members as u8);
-                self.out.text("no kind from to prio octets\n")?;
-                self.out.frame(&ring)?;
+                self.out.text(HEADING)?;
+                self.out.frame(ring.from, &ring.wire)?;
                 self.ring = Some(ring);
                 Ok(())
             }
@@ -105,88 +104,11 @@ impl Session {
             (Some(Line::Step(count)), Some(ring)) => {
                 for _ in 0..count {
                     ring.step();
-                    self.out.frame(ring)?;
+                    self.out.frame(ring.from, &ring.wire)?;
                 }
                 Ok(())
             }
             _ => self.out.text("bad line\n"),
         }
-    }
-}
-
-/// What is to be written, in blocks.
-struct Out {
-    block: Vec<u8>,
-}
-
-impl Out {
-    /// A frame's line has at most this many octets, and so has every other.
-    const LINE: usize = 32;
-
-    fn new() -> Out {
-        Out { block: Vec::with_capacity(BLOCK) }
-    }
-
-    fn flush(&mut self) -> io::Result<()> {
-        io::stdout().lock().write_all(&self.block)?;
-        self.block.clear();
-        Ok(())
-    }
-
-    fn make_room(&mut self) -> io::Result<()> {
-        if self.block.len() + Out::LINE > BLOCK {
-            self.flush()?;
-        }
-        Ok(())
-    }
-
-    fn text(&mut self, text: &str) -> io::Result<()> {
-        self.make_room()?;
-        self.block.extend_from_slice(text.as_bytes());
-        Ok(())
-    }
-
-    fn refused(&mut self, refusal: u16) -> io::Result<()> {
-        self.text("refused")?;
-        self.number(refusal);
-        self.block.push(b'\n');
-        Ok(())
-    }
-
-    /// The frame on the wire.
-    fn frame(&mut self, ring: &Ring) -> io::Result<()> {
-        self.make_room()?;
-        let (kind, priority, octets) = match ring.wire.kind {
-            Kind::Token { priority, .. } => (b'T', priority, 72),
-            Kind::Transmit { priority, .. } => (b'G', priority, 72),
-            Kind::Information(message) => (b'I', message.priority, (34 + message.length).max(72)),
-        };
-        self.digits(ring.wire.number);
-        self.block.extend_from_slice(&[b' ', kind]);
-        self.number(ring.from.into());
-        self.number(ring.wire.to.into());
-        self.number(priority.into());
-        self.number(octets);
-        self.block.push(b'\n');
-        Ok(())
-    }
-
-    fn number(&mut self, number: u16) {
-        self.block.push(b' ');
-        self.digits(number);
-    }
-
-    fn digits(&mut self, mut number: u16) {
-        let mut digits = [b'0'; 5];
-        let mut first = digits.len();
-        loop {
-            first -= 1;
-            digits[first] += (number % 10) as u8;
-            number /= 10;
-            if number == 0 {
-                break;
-            }
-        }
-        self.block.extend_from_slice(&digits[first..]);
     }
 }

@@ -7,6 +7,7 @@ pub const LONGEST: usize = 1500;
 pub const MOST_INFORMATION: usize = 1492;
 
 /// A good ring.
+#[derive(Clone)]
 pub struct Ring {
     pub members: usize,
     pub retry_limit: u8,

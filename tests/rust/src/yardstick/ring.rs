@@ -3,7 +3,6 @@
 use super::codec::Ring as Addresses;
 use super::station::record::{Frame, Kind, Message, Station};
 use super::station::rules::Heard;
-use super::station::{MESSAGES, PLACE};
 
 /// The table of stations, and the one frame on the wire with its sender.
 pub struct Ring {
@@ -41,24 +40,11 @@ impl Ring {
         priority: u16,
         channel: u16,
         length: u16,
-    ) -> Result<(), u16> {
+    ) -> Result<(), u32> {
         let members = self.stations.len() as u16;
-        let station = self.stations.get_mut(usize::from(from)).ok_or(15u16)?;
-        let priority = u8::try_from(priority).ok().filter(|&priority| priority > 0).ok_or(14u16)?;
-        if to >= members || to == from {
-            return Err(15);
-        }
-        if channel > 7 {
-            return Err(17);
-        }
-        if usize::from(length) > PLACE {
-            return Err(18);
-        }
-        if station.send.messages().len() == MESSAGES {
-            return Err(19);
-        }
-        station.send.join(to as u8, priority, channel as u8, length);
-        Ok(())
+        let station = self.stations.get_mut(usize::from(from)).ok_or(15u32)?;
+        let to = (to < members).then_some(to as u8);
+        station.queue(to, priority.into(), channel.into(), length.into()).map(drop)
     }
 }
 
@@ -70,7 +56,7 @@ fn addresses(members: usize) -> Addresses {
 
 /// A frame as the others hear it.
 #[inline]
-fn heard(frame: &Frame) -> Heard {
+pub fn heard(frame: &Frame) -> Heard {
     let number = frame.number;
     match frame.kind {
         Kind::Token { priority, master, failing, named } => {

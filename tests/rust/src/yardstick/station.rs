@@ -125,7 +125,7 @@ pub fn frame(
             return Err(9);
         }
         let (record, mut station) = Station::read(record).ok_or(35u32)?;
-        if !matches!(station.state, State::Idle | State::Waiting) {
+        if !station.takes_part() {
             return Err(22);
         }
         let from = station.ring.position(from).ok_or(13u32)?;
@@ -181,30 +181,8 @@ pub fn queue(
             return Err(9);
         }
         let (record, mut station) = Station::read(record).ok_or(35u32)?;
-        if !matches!(station.state, State::Idle | State::Waiting) {
-            return Err(22);
-        }
-        if !(1..=255).contains(&priority) {
-            return Err(14);
-        }
-        let to = match station.ring.position(to) {
-            Some(to) if to != station.own => to,
-            _ => return Err(15),
-        };
-        if !station.live[usize::from(to)] {
-            return Err(16);
-        }
-        if channel > 7 {
-            return Err(17);
-        }
-        if payload.len() > PLACE {
-            return Err(18);
-        }
-        if station.send.messages().len() == MESSAGES {
-            return Err(19);
-        }
+        let place = station.queue(station.ring.position(to), priority, channel, payload.len())?;
         let length = payload.len() as u16;
-        let place = station.send.join(to, priority as u8, channel as u8, length);
         store[send_place(place, length)].copy_from_slice(payload);
         station.write(record);
         Ok(())

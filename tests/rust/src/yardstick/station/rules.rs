@@ -1,7 +1,7 @@
 //! The rules: what a station does and tells.
 
 use super::record::{Frame, Kind, List, Message, State, Station};
-use super::MESSAGES;
+use super::{MESSAGES, PLACE};
 use crate::yardstick::codec::Packet;
 
 /// A packet that was heard.
@@ -228,5 +228,53 @@ impl Station {
         };
         self.wait_for(next, &mut answer);
         answer
+    }
+
+    /// Whether the timer, while the station waits for this frame's acknowledgement, sends one: the same again, or
+    /// one to another that is live.
+    pub fn timer_sends(&self, frame: &Frame) -> bool {
+        let others =
+            (0..self.ring.members as u8).filter(|other| ![self.own, frame.to].contains(other));
+        self.retries < self.ring.retry_limit || others.into_iter().any(|other| self.is_live(other))
+    }
+
+    /// Frame and queue run in these states.
+    #[inline]
+    pub fn takes_part(&self) -> bool {
+        matches!(self.state, State::Idle | State::Waiting)
+    }
+
+    /// Puts a message to a position at the end of the send list and gives its place; or its refusal.
+    #[inline]
+    pub fn queue(
+        &mut self,
+        to: Option<u8>,
+        priority: usize,
+        channel: usize,
+        length: usize,
+    ) -> Result<u8, u32> {
+        if !self.takes_part() {
+            return Err(22);
+        }
+        if !(1..=255).contains(&priority) {
+            return Err(14);
+        }
+        let to = match to {
+            Some(to) if to != self.own => to,
+            _ => return Err(15),
+        };
+        if !self.is_live(to) {
+            return Err(16);
+        }
+        if channel > 7 {
+            return Err(17);
+        }
+        if length > PLACE {
+            return Err(18);
+        }
+        if self.send.messages().len() == MESSAGES {
+            return Err(19);
+        }
+        Ok(self.send.join(to, priority as u8, channel as u8, length as u16))
     }
 }

@@ -1,0 +1,3 @@
+-- What is worth stating by itself.
+pub mod ReadWrite
+pub mod Numbers

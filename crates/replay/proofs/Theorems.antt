@@ -1,0 +1,2 @@
+-- Theorems, one a file.
+pub mod Calls

@@ -1,0 +1,24 @@
+// The record in hand.
+ghost use mathlib.Core.Path.{_≡_};
+ghost use Rattle.capture.specs.Record.{readRecord};
+ghost use Rattle.replay.specs.Running.{reading};
+use crate::going::Going;
+
+// The record at the run's offset is read.
+pub fn read_next(capture: &[u8], g: Going) -> Going
+    ensures { λ r. ⌜ r ≡ reading g (readRecord (g .n) (now (capture .entry)) (g .at)) ⌝ }
+{
+    let read = capture::record::read_record(g.n as usize, capture, g.at);
+    let wire = g.wire;
+    Going {
+        n: g.n,
+        wire,
+        at: g.at,
+        done: g.done,
+        number: g.number,
+        used: g.used,
+        most: g.most,
+        k: g.k,
+        read,
+    }
+}

@@ -1,0 +1,1 @@
+// What holds of every recorded day: theorems, no code.
