@@ -11,10 +11,10 @@ use Rattle.parts.specs.Choose.{pick}
 use Rattle.capture.specs.Record.{readRecord}
 use Rattle.capture.specs.declared.record.Read.{Read}
 use Rattle.capture.specs.declared.record.Read.the-variants.{End, Refused, Good}
-use Rattle.replay.specs.Day.{startDay}
+use Rattle.day.specs.Day.{startDay}
 use Rattle.replay.specs.Runs.{Record, recordsFrom, Course, gone, goneText, begun, refusal}
 use Rattle.replay.specs.Running.{longest, offsetBehind}
-use Rattle.replay.specs.Wire.{flyingOf}
+use Rattle.day.specs.Wire.{flyingOf}
 use Rattle.replay.specs.declared.run.Replay.{Replay}
 use Rattle.replay.specs.declared.run.Ran.{Ran}
 

@@ -8,7 +8,7 @@ use Rattle.station.specs.declared.station.Station.{Station}
 use Rattle.capture.specs.Record.{readRecord}
 use Rattle.capture.specs.declared.record.Read.{Read}
 use Rattle.capture.specs.declared.record.Read.the-variants.{End, Refused, Good}
-use Rattle.replay.specs.Day.{mostFrames}
+use Rattle.day.specs.Day.{mostFrames}
 use Rattle.replay.specs.Runs.{Record, recordsFrom, Course, gone, goneText}
 use Rattle.replay.specs.Table.{Way, courseIn}
 use Rattle.replay.specs.declared.going.Going.{Going}

@@ -10,9 +10,9 @@ use Rattle.capture.specs.Record.{captureNumber, readRecord}
 use Rattle.capture.specs.declared.record.Event.{Event}
 use Rattle.capture.specs.declared.record.Read.{Read}
 use Rattle.capture.specs.declared.record.Read.the-variants.{End, Refused, Good}
-use Rattle.replay.specs.Day.{Day, startDay}
-use Rattle.replay.specs.Records.{afterRecord, eventNumber}
-use Rattle.replay.specs.Printed.{startText, recordText, stoppedText, endText}
+use Rattle.day.specs.Day.{Day, startDay}
+use Rattle.day.specs.Records.{afterRecord, eventNumber}
+use Rattle.day.specs.Printed.{startText, recordText, stoppedText, endText}
 
 -- ---- the records of a capture
 

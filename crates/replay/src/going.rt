@@ -6,40 +6,20 @@ ghost use Rattle.codec.specs.Octets.{laid};
 ghost use Rattle.parts.specs.Live.{seats};
 ghost use Rattle.bench.specs.Text.{answerText};
 ghost use Rattle.capture.specs.Record.{readRecord};
-ghost use Rattle.replay.specs.Printed.{stoppedText};
-ghost use Rattle.replay.specs.Wire.{flyingOf};
-ghost use Rattle.replay.specs.Table.{
-  wayOf,
-  noHanding,
-  handingWith,
-  handingFor,
-  callFor,
-  placeFor,
-  noPlan,
-  planIn,
-  Ready,
-  takenOf,
-  movedOn,
-  halted,
-  timerLines,
-  takenText,
-  calledText,
-  afterTaken,
-  afterTimer,
-  onward,
-  eventText,
-  afterEvent,
-  readText,
-  afterRead,
-  goesOn,
-};
-use crate::calls::Call;
-use crate::calls::Told;
-use crate::strikes::Taken;
-use crate::wire::Frames;
+ghost use Rattle.day.specs.Printed.{stoppedText};
+ghost use Rattle.day.specs.Wire.{flyingOf};
+ghost use Rattle.replay.specs.Table.{wayOf, planIn, Ready, movedOn, halted, timerLines, afterTaken, afterTimer, onward, eventText, afterEvent, readText, afterRead, goesOn};
+ghost use Rattle.day.specs.Plans.{noHanding, handingWith, handingFor, callFor, placeFor, noPlan};
+ghost use Rattle.day.specs.Strikes.{takenOf, takenText};
+ghost use Rattle.day.specs.Calls.{calledText};
 use bench::table::Handing;
 use capture::record::Event;
 use capture::record::Read;
+use day::calls::Call;
+use day::calls::Told;
+use day::plan::Plan;
+use day::strikes::Taken;
+use day::wire::Frames;
 use parts::frame::Dispatch;
 use parts::frame::Frame;
 use parts::frame::TransmitFrame;
@@ -58,103 +38,6 @@ pub struct Going {
     pub read: Read,
 }
 
-// What a record asks for: whom it hands a frame, and which station it calls.
-pub struct Plan {
-    pub handing: Handing,
-    pub place: usize,
-    pub call: Call,
-}
-
-// Nobody is handed anything.
-pub fn no_handing() -> Handing
-    ensures { λ r. ⌜ r ≡ noHanding ⌝ }
-{
-    Handing {
-        n: 0,
-        m: 0,
-        frame: Frame::Transmit(TransmitFrame {
-            number: 0,
-            priority: 0,
-            master: 0,
-            named: 0,
-        }),
-        quiet: true,
-        from: 0,
-        to: 0,
-        lost: false,
-    }
-}
-
-// The oldest frame is handed round.
-pub fn handing_with(n: u8, lost: bool, w: Frames) -> Handing
-    ensures { λ r. ⌜ r ≡ handingWith n lost (flyingOf w) ⌝ }
-{
-    if crate::wire::count(w) == 0 {
-        return no_handing();
-    }
-    let f = crate::wire::oldest(w);
-    let frame = f.frame;
-    let quiet = bench::delivery::is_quiet(frame);
-    let m = parts::live::seats(n);
-    Handing {
-        n,
-        m,
-        frame,
-        quiet,
-        from: f.from,
-        to: f.to,
-        lost,
-    }
-}
-
-pub fn handing_for(n: u8, w: Frames, e: Event) -> Handing
-    ensures { λ r. ⌜ r ≡ handingFor n (flyingOf w) e ⌝ }
-{
-    match e {
-        Event::Delivered => handing_with(n, false, w),
-        Event::LostForAddressee => handing_with(n, true, w),
-        Event::LostForAll => no_handing(),
-        Event::Timer { station: _ } => no_handing(),
-        Event::Queue {
-            station: _,
-            request: _,
-        } => no_handing(),
-    }
-}
-
-pub fn call_for(w: Frames, e: Event) -> Call
-    ensures { λ r. ⌜ r ≡ callFor (flyingOf w) e ⌝ }
-{
-    match e {
-        Event::Delivered => Call::NoCall,
-        Event::LostForAddressee => Call::NoCall,
-        Event::LostForAll => Call::NoCall,
-        Event::Timer { station: _ } => {
-            let room = crate::wire::count(w) < 64;
-            Call::TimerCall(room)
-        }
-        Event::Queue {
-            station: _,
-            request,
-        } => Call::QueueCall(request),
-    }
-}
-
-pub fn place_for(e: Event) -> usize
-    ensures { λ r. ⌜ r ≡ placeFor e ⌝ }
-{
-    match e {
-        Event::Delivered => 0,
-        Event::LostForAddressee => 0,
-        Event::LostForAll => 0,
-        Event::Timer { station } => station,
-        Event::Queue {
-            station,
-            request: _,
-        } => station,
-    }
-}
-
 // What the record in hand asks for.
 pub fn plan_of(g: Going) -> Plan
     ensures { λ r. ⌜ r ≡ planIn (wayOf g) (g .read) ⌝ }
@@ -162,28 +45,17 @@ pub fn plan_of(g: Going) -> Plan
     let read = g.read;
     match read {
         Read::Good { event, next: _ } => {
-            let handing = handing_for(g.n, g.wire, event);
-            let place = place_for(event);
-            let call = call_for(g.wire, event);
+            let handing = day::plan::handing_for(g.n, g.wire, event);
+            let place = day::plan::place_for(event);
+            let call = day::plan::call_for(g.wire, event);
             Plan {
                 handing,
                 place,
                 call,
             }
         }
-        Read::Refused(_) => no_plan(),
-        Read::End => no_plan(),
-    }
-}
-
-pub fn no_plan() -> Plan
-    ensures { λ r. ⌜ r ≡ noPlan ⌝ }
-{
-    let handing = no_handing();
-    Plan {
-        handing,
-        place: 0,
-        call: Call::NoCall,
+        Read::Refused(_) => day::plan::no_plan(),
+        Read::End => day::plan::no_plan(),
     }
 }
 
@@ -254,7 +126,7 @@ pub fn stop(out: &mut [u8], g: Going, number: u32) -> Going
     ensures { λ r. ⌜ (wayOf r ≡ halted (wayOf g) number (stoppedText number (g .done)))
         × (now (out .exit) ≡ laid (now (out .entry)) (g .used) (stoppedText number (g .done))) ⌝ }
 {
-    let used = crate::text::put_stopped(&mut *out, g.used, number, g.done);
+    let used = day::text::put_stopped(&mut *out, g.used, number, g.done);
     halt(g, number, used)
 }
 
@@ -264,10 +136,10 @@ pub fn on_frame(out: &mut [u8], g: Going, next: usize, h: Handing, t: Taken) -> 
     ensures { λ r. ⌜ (wayOf r ≡ afterTaken (wayOf g) next h t)
         × (now (out .exit) ≡ laid (now (out .entry)) (g .used) (takenText h t)) ⌝ }
 {
-    let used = crate::text::put_taken(&mut *out, g.used, h, t);
-    let rest = crate::wire::rest(g.wire);
+    let used = day::text::put_taken(&mut *out, g.used, h, t);
+    let rest = day::wire::rest(g.wire);
     let sent = t.reply;
-    let wire = crate::wire::join(rest, h.to, sent);
+    let wire = day::wire::join(rest, h.to, sent);
     go_on(g, wire, next, used)
 }
 
@@ -281,9 +153,9 @@ pub fn on_timer(out: &mut [u8], g: Going, next: usize, p: usize, a: Told) -> Goi
         return stop(&mut *out, g, a.number);
     }
     let own = p as u8;
-    let used = crate::text::put_called(&mut *out, g.used, own, a);
+    let used = day::text::put_called(&mut *out, g.used, own, a);
     let sent = a.sent;
-    let wire = crate::wire::join(g.wire, own, sent);
+    let wire = day::wire::join(g.wire, own, sent);
     go_on(g, wire, next, used)
 }
 

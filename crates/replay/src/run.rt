@@ -4,14 +4,14 @@ ghost use Prim.Native.Nat.{_+_, _-_, _^_, _<_, _≤_};
 ghost use lib.ListN.{length, getD};
 ghost use Rattle.codec.specs.Octets.{laid};
 ghost use Rattle.bench.specs.Ring.{nobody};
-ghost use Rattle.replay.specs.Day.{startDay};
-ghost use Rattle.replay.specs.Printed.{startText, stationText};
+ghost use Rattle.day.specs.Day.{startDay};
+ghost use Rattle.day.specs.Printed.{startText, stationText};
 ghost use Rattle.replay.specs.Runs.{begun, refusal};
 ghost use Rattle.replay.specs.Replays.{courseOf, begunBy, isEnd, isOver, turnsIn, RanFrom};
 use crate::going::Going;
-use crate::wire::Frames;
 use bench::ring::Bench;
 use capture::record::Read;
+use day::wire::Frames;
 use station::station::Station;
 
 // A course, and the offset of its next record.
@@ -43,8 +43,8 @@ pub fn start(n: u8, limit: u8) -> Replay
     let b = Bench::new(n, limit);
     let w = b.wire;
     let sent = w.sent;
-    let none = crate::wire::empty();
-    let wire = crate::wire::join(none, w.from, sent);
+    let none = day::wire::empty();
+    let wire = day::wire::join(none, w.from, sent);
     let stations = b.stations;
     Replay {
         n: b.n,
@@ -111,7 +111,7 @@ impl Replay {
     {
         let a = bench::text::put_heading(&mut *out, at);
         let wire = self.wire;
-        crate::text::put_frames(&mut *out, a, wire)
+        day::text::put_frames(&mut *out, a, wire)
     }
 
     // Whether the run has stopped, or no record is left.
@@ -168,6 +168,6 @@ impl Replay {
             × (r ≡ at + length (stationText (self .n) p (getD (self .stations) p nobody))) ⌝ }
     {
         let s = self.stations[p];
-        crate::standing::put_station(&mut *out, at, self.n, p, s)
+        day::standing::put_station(&mut *out, at, self.n, p, s)
     }
 }

@@ -7,11 +7,13 @@ ghost use Rattle.codec.specs.Octets.{laid};
 ghost use Rattle.parts.specs.Live.{seats};
 ghost use Rattle.bench.specs.Delivery.{isQuiet};
 ghost use Rattle.replay.specs.Running.{Begins, AllDone};
-ghost use Rattle.replay.specs.Table.{strikesAt, strikersOf, toldBy, keptBy, planIn, takenIn, handedIn, calledIn, tableIn, toldIn, wayOf, wayAfter, textAfter, Ready};
-use crate::calls::Call;
-use crate::calls::Told;
+ghost use Rattle.day.specs.Strikes.{strikesAt, strikersOf};
+ghost use Rattle.day.specs.Calls.{toldBy, keptBy};
+ghost use Rattle.replay.specs.Table.{planIn, takenIn, handedIn, calledIn, tableIn, toldIn, wayOf, wayAfter, textAfter, Ready};
 use crate::going::Going;
 use bench::table::Handing;
+use day::calls::Call;
+use day::calls::Told;
 use parts::frame::Dispatch;
 use parts::live::Live;
 use station::station::Station;
@@ -28,7 +30,7 @@ pub fn strikes_at(table: &[Station], p: usize, h: Handing) -> bool
     ensures { λ r. ⌜ r ≡ strikesAt (now (table .entry)) h p ⌝ }
 {
     let s = table[p];
-    crate::strikes::strikes(s, p, h)
+    day::strikes::strikes(s, p, h)
 }
 
 // The strikers among the first `m` records are marked in a set.
@@ -40,7 +42,7 @@ pub fn strikers(table: &[Station], h: Handing, m: usize, none: Live) -> Live
     let mut p: usize = 0;
     while p < m {
         let b = strikes_at(table, p, h);
-        l = crate::strikes::mark(l, p, b);
+        l = day::strikes::mark(l, p, b);
         p += 1;
     }
     l
@@ -52,7 +54,7 @@ pub fn told_at(table: &[Station], p: usize, c: Call) -> Told
     ensures { λ r. ⌜ r ≡ toldBy (getD (now (table .entry)) p nobody) c ⌝ }
 {
     let s = table[p];
-    crate::calls::told_by(s, c)
+    day::calls::told_by(s, c)
 }
 
 // The station at `p` is called.
@@ -62,7 +64,7 @@ pub fn call_at(table: &mut [Station], p: usize, c: Call) -> u32
         × (now (table .exit) ≡ set (now (table .entry)) p (keptBy (getD (now (table .entry)) p nobody) c .station)) ⌝ }
 {
     let s = table[p];
-    let d = crate::calls::kept_by(s, c);
+    let d = day::calls::kept_by(s, c);
     table[p] = d.station;
     d.number
 }
@@ -83,8 +85,8 @@ fn strikers_for(table: &[Station], g: Going) -> Live
     ensures { λ r. ⌜ r ≡ takenIn (planIn (wayOf g) (g .read) .handing) (now (table .entry)) .strikers ⌝ }
 {
     let h = crate::going::handing_in(g);
-    let m = crate::strikes::span_of(h);
-    let none = crate::strikes::no_strikers();
+    let m = day::strikes::span_of(h);
+    let none = day::strikes::no_strikers();
     strikers(table, h, m, none)
 }
 

@@ -4,7 +4,7 @@ use mathlib.Core.List.{List, [], _∷_, _++_}
 use Prim.Native.Nat.{ℕ, zero, suc, _-_, _≤_}
 use lib.ListN.{length, getD, take, drop}
 use Rattle.bench.specs.Ring.{nobody}
-use Rattle.replay.specs.Printed.{stationText}
+use Rattle.day.specs.Printed.{stationText}
 use Rattle.replay.specs.Running.{longest}
 use Rattle.replay.specs.Replays.{courseOf, begunBy, RanFrom}
 use Rattle.replay.specs.declared.run.Replay.{Replay}

@@ -3,8 +3,8 @@ use mathlib.Core.Path.{_≡_}
 use mathlib.Core.List.{List, _++_}
 use Prim.Native.Nat.{ℕ, _≤_}
 use Rattle.codec.specs.Ring.{count, limit}
-use Rattle.replay.specs.Day.{Day, startDay}
-use Rattle.replay.specs.Printed.{startText, endText}
+use Rattle.day.specs.Day.{Day, startDay}
+use Rattle.day.specs.Printed.{startText, endText}
 use Rattle.replay.specs.Runs.{Course, gone, begun, recordsOf, output}
 use Rattle.replay_theorems.specs.Lines.{linesText, runLines}
 

@@ -13,7 +13,7 @@ use Rattle.bench.specs.declared.ring.Bench.{Bench}
 use Rattle.bench.specs.declared.rows.Row.{Row}
 use Rattle.waiting.specs.Waiting.{spotFor, atQueue, Bound}
 use Rattle.capture.specs.declared.record.Event.the-variants.{Delivered, LostForAddressee, LostForAll, Timer, Queue}
-use Rattle.replay.specs.Day.{begunBy, startDay}
+use Rattle.day.specs.Day.{begunBy, startDay}
 use Rattle.replay.specs.Runs.{Record, good, bad, gone, goneText, begun}
 use Rattle.replay_theorems.specs.Lines.{Line, struck, sent, queued, stopped, linesText, sentLines, runLines}
 

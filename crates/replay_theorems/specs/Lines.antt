@@ -16,10 +16,10 @@ use Rattle.bench.specs.Text.{rowText, answerText}
 use Rattle.bench.specs.declared.rows.Row.{Row}
 use Rattle.capture.specs.declared.record.Event.{Event}
 use Rattle.capture.specs.declared.record.Event.the-variants.{Delivered, LostForAddressee, LostForAll, Timer, Queue}
-use Rattle.replay.specs.declared.wire.Flying.{Flying}
-use Rattle.replay.specs.Day.{Day, memberAt}
-use Rattle.replay.specs.Records.{hearers, replyTo, timerAnswer}
-use Rattle.replay.specs.Printed.{struckText, stoppedText}
+use Rattle.day.specs.declared.wire.Flying.{Flying}
+use Rattle.day.specs.Day.{Day, memberAt}
+use Rattle.day.specs.Records.{hearers, replyTo, timerAnswer}
+use Rattle.day.specs.Printed.{struckText, stoppedText}
 use Rattle.replay.specs.Runs.{Record, good, bad, Course, recordNumber, turn}
 
 -- a line: the first has been struck by the second; a frame; a queue call's number, of which nothing is printed where it is 0; a refused

@@ -7,9 +7,9 @@ use lib.ListN.{length}
 use Rattle.parts.specs.declared.frame.Dispatch.the-variants.{Nothing}
 use Rattle.capture.specs.declared.record.Event.{Event}
 use Rattle.capture.specs.declared.record.Event.the-variants.{Delivered, LostForAddressee, LostForAll, Timer, Queue}
-use Rattle.replay.specs.declared.wire.Flying.{Flying}
-use Rattle.replay.specs.Day.{Day, memberAt, joining}
-use Rattle.replay.specs.Records.{hearers, answerOf, afterRecord}
+use Rattle.day.specs.declared.wire.Flying.{Flying}
+use Rattle.day.specs.Day.{Day, memberAt, joining}
+use Rattle.day.specs.Records.{hearers, answerOf, afterRecord}
 
 -- a frame, delivered or lost
 abbrev pub isFrame : Event → Bool

@@ -2,9 +2,9 @@
 use mathlib.Core.Path.{_≡_}
 use mathlib.Core.List.{[]}
 use Rattle.capture.specs.declared.record.Event.{Event}
-use Rattle.replay.specs.Day.{Day}
-use Rattle.replay.specs.Records.{afterRecord, eventNumber}
-use Rattle.replay.specs.Printed.{recordText}
+use Rattle.day.specs.Day.{Day}
+use Rattle.day.specs.Records.{afterRecord, eventNumber}
+use Rattle.day.specs.Printed.{recordText}
 
 -- the day stays as it is, the run goes on, and nothing is printed
 pub record NothingHappens (d : Day) (e : Event) : Type 0 where

@@ -2,8 +2,8 @@
 use mathlib.Core.Path.{_≡_}
 use mathlib.Core.List.{List, _∷_, _++_}
 use lib.ListN.{length}
-use Rattle.replay.specs.Day.{Day}
-use Rattle.replay.specs.Printed.{startText, stoppedText, endText}
+use Rattle.day.specs.Day.{Day}
+use Rattle.day.specs.Printed.{startText, stoppedText, endText}
 use Rattle.replay.specs.Runs.{Record, recordNumber, gone, goneText, begun, dayText}
 
 -- a run of the records that stops: it leaves what the run of those before the refused one leaves, and prints what that prints and the

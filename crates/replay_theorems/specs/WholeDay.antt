@@ -8,8 +8,8 @@ use Rattle.parts.specs.Frames.{fit}
 use Rattle.station.specs.declared.station.Station.{Station}
 use Rattle.station_theorems.specs.Shaped.{WholeStation}
 use Rattle.bench.specs.Ring.{nobody}
-use Rattle.replay.specs.declared.wire.Flying.{Flying}
-use Rattle.replay.specs.Day.{Day, mostFrames, memberAt}
+use Rattle.day.specs.declared.wire.Flying.{Flying}
+use Rattle.day.specs.Day.{Day, mostFrames, memberAt}
 
 -- a whole station at the position p of a ring of n with a retry limit
 pub record MemberOf (n limit p : ℕ) (s : Station) : Type 0 where

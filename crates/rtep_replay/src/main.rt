@@ -1,11 +1,11 @@
 // Runs a recorded day on the bench: `rtep_replay RINGFILE CAPTURE`.
 ghost use Prim.Native.Nat.{_≤_};
 ghost use lib.ListN.{length};
+use day::standing::put_end_heading;
 use libc::STDERR_FILENO;
 use libc::STDOUT_FILENO;
 use replay::run::Replay;
 use replay::run::begin;
-use replay::standing::put_end_heading;
 
 // What is answered for a file that cannot be read: more than any buffer holds.
 const UNREAD: usize = usize::MAX;

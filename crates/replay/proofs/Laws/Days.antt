@@ -36,18 +36,21 @@ use Rattle.capture.specs.declared.record.Event.{Event}
 use Rattle.capture.specs.declared.record.Event.the-variants.{Delivered, LostForAddressee, LostForAll, Timer, Queue}
 use Rattle.capture.specs.declared.record.Read.{Read}
 use Rattle.capture.specs.declared.record.Read.the-variants.{End, Refused, Good}
-use Rattle.replay.specs.Day.{Day, mostFrames, memberAt, joining}
-use Rattle.replay.specs.Records.{nobodyHears, hearers, replyTo, afterFrame, takeFrame, afterCall, timerAnswer, afterRecord, overfills, eventNumber}
-use Rattle.replay.specs.Printed.{strikesText, frameText, takeText, timerText, recordText, stoppedText}
+use Rattle.day.specs.Day.{Day, mostFrames, memberAt, joining}
+use Rattle.day.specs.Records.{nobodyHears, hearers, replyTo, afterFrame, takeFrame, afterCall, timerAnswer, afterRecord, overfills, eventNumber}
+use Rattle.day.specs.Printed.{strikesText, frameText, takeText, timerText, recordText, stoppedText}
 use Rattle.replay.specs.Runs.{Record, good, bad, Course, stopped, wentOn, recordNumber, effect, effectText, turn, turnText, gone, goneText}
-use Rattle.replay.specs.Table.{span, marksText, noStrikers, strikersOf, strikersText, refusedBy, timed, calledBy, toldBy, keptBy, told, Way, dayIn, courseIn, recordsIn, noHanding, handingWith, handingFor, planIn, joinedBy, takenText, calledText, timerLines, onward, halted, movedOn, afterTaken, afterTimer, afterEvent, eventText, afterRead, readText, takenIn, handedIn, calledIn, tableIn, toldIn, wayAfter, textAfter}
-use Rattle.replay.specs.declared.wire.Flying.{Flying}
-use Rattle.replay.specs.declared.calls.Call.{Call}
-use Rattle.replay.specs.declared.calls.Call.the-variants.{NoCall, TimerCall, QueueCall}
-use Rattle.replay.specs.declared.calls.Told.{Told}
-use Rattle.replay.specs.declared.calls.Answered.{Answered}
-use Rattle.replay.proofs.Laws.Frames.{unheard-all, unstruck-all, unsent, none-at-all, nobody-at-all, strikers-lines}
-use Rattle.replay.proofs.Laws.Strikes.{not-less}
+use Rattle.day.specs.Strikes.{span, marksText, noStrikers, strikersOf, strikersText, takenText}
+use Rattle.day.specs.Calls.{refusedBy, timed, calledBy, toldBy, keptBy, told, calledText}
+use Rattle.replay.specs.Table.{Way, dayIn, courseIn, recordsIn, planIn, joinedBy, timerLines, onward, halted, movedOn, afterTaken, afterTimer, afterEvent, eventText, afterRead, readText, takenIn, handedIn, calledIn, tableIn, toldIn, wayAfter, textAfter}
+use Rattle.day.specs.Plans.{noHanding, handingWith, handingFor}
+use Rattle.day.specs.declared.wire.Flying.{Flying}
+use Rattle.day.specs.declared.calls.Call.{Call}
+use Rattle.day.specs.declared.calls.Call.the-variants.{NoCall, TimerCall, QueueCall}
+use Rattle.day.specs.declared.calls.Told.{Told}
+use Rattle.day.specs.declared.calls.Answered.{Answered}
+use Rattle.day.proofs.Laws.Frames.{unheard-all, unstruck-all, unsent, none-at-all, nobody-at-all, strikers-lines}
+use Rattle.day.proofs.Laws.Strikes.{not-less}
 
 -- ---- the turn of a run that goes on
 

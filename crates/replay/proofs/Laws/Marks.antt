@@ -15,12 +15,14 @@ use Rattle.parts.specs.declared.frame.Dispatch.{Dispatch}
 use Rattle.bench.specs.Ring.{nobody}
 use Rattle.bench.specs.Delivery.{isQuiet}
 use Rattle.capture.specs.declared.record.Read.{Read}
-use Rattle.replay.specs.Table.{strikesAt, span, noStrikers, marked, strikersOf, toldBy, Way, planIn, takenIn, handedIn, calledIn, tableIn, toldIn, wayOf, takenOf, afterRead, readText, wayAfter, textAfter}
-use Rattle.replay.specs.declared.calls.Call.{Call}
-use Rattle.replay.specs.declared.going.Plan.{Plan}
+use Rattle.day.specs.Strikes.{strikesAt, span, noStrikers, marked, strikersOf, takenOf}
+use Rattle.day.specs.Calls.{toldBy}
+use Rattle.replay.specs.Table.{Way, planIn, takenIn, handedIn, calledIn, tableIn, toldIn, wayOf, afterRead, readText, wayAfter, textAfter}
+use Rattle.day.specs.declared.calls.Call.{Call}
+use Rattle.day.specs.declared.plan.Plan.{Plan}
 use Rattle.replay.specs.declared.going.Going.{Going}
-use Rattle.replay.specs.declared.calls.Told.{Told}
-use Rattle.replay.proofs.Laws.Lines.{span-most}
+use Rattle.day.specs.declared.calls.Told.{Told}
+use Rattle.day.proofs.Laws.Lines.{span-most}
 use Rattle.replay.proofs.Laws.Turns.{plan-asks}
 
 module _ (none : Live) (ys : List Station) (h : Handing) where

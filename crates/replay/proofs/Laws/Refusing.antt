@@ -11,7 +11,7 @@ use Rattle.codec.specs.Ring.{count, limit, ringRefusal}
 use Rattle.codec.proofs.Laws.Ring.{head-good, head-passed}
 use Rattle.parts.proofs.Laws.Choose.{pick-true, pick-false}
 use Rattle.capture.specs.Record.{captureNumber}
-use Rattle.replay.specs.Day.{startDay}
+use Rattle.day.specs.Day.{startDay}
 use Rattle.replay.specs.Replays.{begunBy}
 use Rattle.replay.specs.Runs.{Course, begun, refusal}
 

@@ -30,16 +30,19 @@ use Rattle.capture.specs.declared.record.Event.the-variants.{Delivered, LostFor
 use Rattle.capture.specs.declared.record.Read.{Read}
 use Rattle.capture.specs.declared.record.Read.the-variants.{End, Refused, Good}
 use Rattle.capture.proofs.Laws.Reading.{found, refused-is}
-use Rattle.replay.specs.Day.{joining}
-use Rattle.replay.specs.Printed.{struckText, stoppedText}
+use Rattle.day.specs.Day.{joining}
+use Rattle.day.specs.Printed.{struckText, stoppedText}
 use Rattle.replay.specs.Runs.{Record, good, bad, readFirst, recordsFrom, Course, turn, turnText, gone, goneText}
 use Rattle.replay.specs.Running.{nextOffset, offsetBehind, Begins, recordsFor, courseAfter, textOf, AllDone}
-use Rattle.replay.specs.Table.{span, marksText, Way, courseIn, recordsIn, placeFor, planIn, movedOn, halted, onward, takenText, calledText, joinedBy, timerLines, afterTaken, afterTimer, afterEvent, eventText, afterRead, readText, goesOn, tableIn, wayAfter, textAfter}
-use Rattle.replay.specs.declared.wire.Flying.{Flying}
-use Rattle.replay.specs.declared.calls.Told.{Told}
-use Rattle.replay.specs.declared.strikes.Taken.{Taken}
+use Rattle.day.specs.Strikes.{span, marksText, takenText}
+use Rattle.replay.specs.Table.{Way, courseIn, recordsIn, planIn, movedOn, halted, onward, joinedBy, timerLines, afterTaken, afterTimer, afterEvent, eventText, afterRead, readText, goesOn, tableIn, wayAfter, textAfter}
+use Rattle.day.specs.Plans.{placeFor}
+use Rattle.day.specs.Calls.{calledText}
+use Rattle.day.specs.declared.wire.Flying.{Flying}
+use Rattle.day.specs.declared.calls.Told.{Told}
+use Rattle.day.specs.declared.strikes.Taken.{Taken}
 use Rattle.replay.proofs.Laws.Days.{record-turn}
-use Rattle.replay.proofs.Laws.Lines.{struck-short, marks-short, row-most, span-most}
+use Rattle.day.proofs.Laws.Lines.{struck-short, marks-short, row-most, span-most}
 use Rattle.replay.proofs.Laws.Turns.{plan-most}
 
 -- ---- how long the lines of a record are

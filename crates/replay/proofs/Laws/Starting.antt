@@ -24,63 +24,19 @@ use Rattle.bench.specs.declared.ring.Bench.{Bench}
 use Rattle.capture.specs.Record.{readRecord}
 use Rattle.capture.specs.declared.record.Read.{Read}
 use Rattle.capture.specs.declared.record.Read.the-variants.{End}
-use Rattle.replay.specs.Day.{mostFrames, joining, begunBy, startDay}
-use Rattle.replay.specs.Printed.{flyingText, wireText, stationText}
+use Rattle.day.specs.Day.{mostFrames, joining, begunBy, startDay}
+use Rattle.day.specs.Printed.{flyingText, wireText, stationText}
 use Rattle.replay.specs.Replays.{courseOf, isEnd, isOver, turnsIn, RanFrom}
 use Rattle.replay.specs.Running.{longest, AllDone, Begins}
 use Rattle.replay.specs.Runs.{Course, begun}
 use Rattle.replay.specs.Table.{wayOf}
-use Rattle.replay.specs.Wire.{noFrames, flyingOf}
+use Rattle.day.specs.Wire.{noFrames, flyingOf}
 use Rattle.replay.specs.declared.going.Going.{Going}
 use Rattle.replay.specs.declared.run.Replay.{Replay}
 use Rattle.replay.specs.declared.run.Ran.{Ran}
-use Rattle.replay.specs.declared.wire.Frames.{Frames}
-use Rattle.replay.specs.declared.wire.Flying.{Flying}
-use Rattle.replay.proofs.Laws.Wire.{flying-most}
-
--- ---- the frames' lines
-
-pub flying-short : (f : Flying) → length (flyingText f) ≤ 32
-flying-short f = row-short (rowOf (f .from) (f .frame) (f .to))
-
-wire-short : (fs : List Flying) → length (wireText fs) ≤ 32 * length fs
-unfolding wireText
-wire-short [] = omega arith
-wire-short (f ∷ fs) = omega (arith, length-append (flyingText f) (wireText fs), flying-short f, wire-short fs)
-
-taken-short : (k : ℕ) (fs : List Flying) → length (take k fs) ≤ k
-taken-short zero fs = omega arith
-taken-short (suc k) [] = omega arith
-taken-short (suc k) (f ∷ fs) = omega (arith, taken-short k fs)
-
--- one more of them
-wire-behind : (k : ℕ) (fs : List Flying) (d : Flying) → k < length fs → wireText (take (suc k) fs) ≡ wireText (take k fs) ++ flyingText (getD fs k d)
-unfolding wireText
-wire-behind k [] d less = absurd (omega arith)
-wire-behind zero (f ∷ fs) d less = append-nil (flyingText f)
-wire-behind (suc k) (f ∷ fs) d less =
-    ap (λ (t : List ℕ). flyingText f ++ t) (wire-behind k fs d (omega arith)) ∙ sym (append-assoc (flyingText f) (wireText (take k fs)) (flyingText (getD fs k d)))
-
-module _ (fs : List Flying) where
-  -- i of them stand there
-  abbrev pub Lined : List ℕ → List ℕ → ℕ → ℕ → ℕ → Type 0
-  Lined l l₁ at end i = (l₁ ≡ laid l at (wireText (take i fs))) × (end ≡ at + length (wireText (take i fs)))
-
-  pub lined-none : (l : List ℕ) (at : ℕ) → Lined l l at at 0
-  unfolding wireText
-  lined-none l at = (sym (laid-none l at), omega arith)
-
-  pub lined-room : (l l₁ : List ℕ) (at end i : ℕ) → at + 2048 ≤ length l → length l₁ ≡ length l → i < 64 → Lined l l₁ at end i → end + 32 ≤ length l₁
-  lined-room l l₁ at end i room long less h = omega (arith, h .1, wire-short (take i fs), taken-short i fs, long)
-
-  pub lined-more : (l l₁ l₂ : List ℕ) (at a b i : ℕ) (f d : Flying) → at + 2048 ≤ length l → i < 64 → i < length fs → f ≡ getD fs i d → Lined l l₁ at a i
-      → (l₂ ≡ laid l₁ a (flyingText f)) × (b ≡ a + length (flyingText f)) → Lined l l₂ at b (i + 1)
-  lined-more l l₁ l₂ at a b i f d room less some e h p =
-      let w : wireText (take (i + 1) fs) ≡ wireText (take i fs) ++ flyingText f = ap (λ (k : ℕ). wireText (take k fs)) (add-one i) ∙ wire-behind i fs d some ∙ ap (λ (g : Flying). wireText (take i fs) ++ flyingText g) (sym e) in
-      rw w (laid-both l l₁ l₂ (wireText (take i fs)) (flyingText f) at a b (omega (arith, wire-short (take i fs), taken-short i fs, flying-short f)) (h .1) (p .1) (h .0) (p .0))
-
-  pub lined-all : (l l₁ : List ℕ) (at end i : ℕ) → length fs ≤ i → Lined l l₁ at end i → (l₁ ≡ laid l at (wireText fs)) × (end ≡ at + length (wireText fs))
-  lined-all l l₁ at end i all h = subst (λ (gs : List Flying). (l₁ ≡ laid l at (wireText gs)) × (end ≡ at + length (wireText gs))) (take-all i fs all) h
+use Rattle.day.specs.declared.wire.Frames.{Frames}
+use Rattle.day.specs.declared.wire.Flying.{Flying}
+use Rattle.day.proofs.Laws.Wire.{flying-most}
 
 -- ---- the first course
 
@@ -156,11 +112,6 @@ module _ (r : Replay) (s out₀ : List ℕ) (at most : ℕ) (e : most ≡ turnsI
   ran-from g ss out d =
       let f : AllDone (wayOf (goingFrom r at (turnsIn (length out₀ - at) (r .done)))) (r .stations) s out₀ (wayOf g) ss out = subst (λ (k : ℕ). AllDone (wayOf (goingFrom r at k)) (r .stations) s out₀ (wayOf g) ss out) e d in
       record { course = f .course; offset = f .offset; end = f .end; text = f .text }
-
--- ---- the start: the heading, and the frames
-
-pub wire-most : (w : Frames) → length (w .items) ≡ 64 → length (wireText (flyingOf w)) ≤ 2048
-wire-most w size = omega (arith, wire-short (flyingOf w), flying-most w size .0)
 
 -- ---- a station of the table
 

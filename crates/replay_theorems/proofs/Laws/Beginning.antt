@@ -13,8 +13,8 @@ use Rattle.bench_theorems.specs.Quiet.{Member, Quiet}
 use Rattle.bench_theorems.proofs.Laws.FullSet.{seats-most}
 use Rattle.bench_theorems.proofs.Laws.Beginning.{ring-n}
 use Rattle.bench_theorems.proofs.Laws.Ringing.{quiet-start}
-use Rattle.replay.specs.declared.wire.Flying.{Flying}
-use Rattle.replay.specs.Day.{memberAt, joining, begunBy, startDay}
+use Rattle.day.specs.declared.wire.Flying.{Flying}
+use Rattle.day.specs.Day.{memberAt, joining, begunBy, startDay}
 use Rattle.replay_theorems.specs.WholeDay.{MemberOf, Proper, WholeDay}
 
 -- ---- past the ring nobody starts

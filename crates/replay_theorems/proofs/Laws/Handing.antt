@@ -25,9 +25,9 @@ use Rattle.station_theorems.proofs.Theorems.FrameWhole.{frame-keeps-whole}
 use Rattle.bench.specs.Ring.{nobody}
 use Rattle.bench.specs.Delivery.{handed}
 use Rattle.bench.proofs.Laws.Delivered.{delivered-length, delivered-at}
-use Rattle.replay.specs.declared.wire.Flying.{Flying}
-use Rattle.replay.specs.Day.{Day, memberAt, joining}
-use Rattle.replay.specs.Records.{answerOf, replyTo, afterFrame, afterCall}
+use Rattle.day.specs.declared.wire.Flying.{Flying}
+use Rattle.day.specs.Day.{Day, memberAt, joining}
+use Rattle.day.specs.Records.{answerOf, replyTo, afterFrame, afterCall}
 use Rattle.replay_theorems.specs.WholeDay.{MemberOf, Proper}
 use Rattle.replay_theorems.proofs.Laws.Placed.{Placed, placed-answered, frame-placed}
 

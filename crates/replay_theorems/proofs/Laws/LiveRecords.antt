@@ -18,9 +18,9 @@ use Rattle.station_theorems.proofs.Theorems.NobodyStruck.{queue-strikes-nobody}
 use Rattle.bench.specs.Rows.{rowOn}
 use Rattle.capture.specs.declared.record.Event.{Event}
 use Rattle.capture.specs.declared.record.Event.the-variants.{Delivered, LostForAddressee, LostForAll, Timer, Queue}
-use Rattle.replay.specs.declared.wire.Flying.{Flying}
-use Rattle.replay.specs.Day.{Day, memberAt}
-use Rattle.replay.specs.Records.{hearers, answerOf, replyTo, afterFrame, takeFrame, afterCall, timerAnswer, afterRecord}
+use Rattle.day.specs.declared.wire.Flying.{Flying}
+use Rattle.day.specs.Day.{Day, memberAt}
+use Rattle.day.specs.Records.{hearers, answerOf, replyTo, afterFrame, takeFrame, afterCall, timerAnswer, afterRecord}
 use Rattle.replay_theorems.specs.Lines.{Line, queued, struckLine, sentLines, struckLines, takenLines, timerLines, recordLines}
 use Rattle.replay_theorems.specs.Strikes.{struckBy}
 use Rattle.replay_theorems.specs.WholeDay.{WholeDay}

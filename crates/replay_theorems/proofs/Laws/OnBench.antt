@@ -31,9 +31,9 @@ use Rattle.bench_theorems.proofs.Laws.FullSet.{seats-most}
 use Rattle.bench_theorems.proofs.Laws.Answers.{Role, sends, answers, overhears, role, silent-at, answer-at}
 use Rattle.bench_theorems.proofs.Laws.Delivering.{step-delivers}
 use Rattle.capture.specs.declared.record.Event.the-variants.{Delivered, Queue}
-use Rattle.replay.specs.declared.wire.Flying.{Flying}
-use Rattle.replay.specs.Day.{Day, joining, begunBy}
-use Rattle.replay.specs.Records.{afterFrame, takeFrame, afterCall, afterRecord}
+use Rattle.day.specs.declared.wire.Flying.{Flying}
+use Rattle.day.specs.Day.{Day, joining, begunBy}
+use Rattle.day.specs.Records.{afterFrame, takeFrame, afterCall, afterRecord}
 use Rattle.replay_theorems.specs.Lines.{Line, queued, struckLine, sentLines, struckLines, takenLines, recordLines}
 use Rattle.replay_theorems.specs.FaultFree.{eventLines}
 use Rattle.replay_theorems.proofs.Laws.Placed.{queue-silent}

@@ -19,8 +19,8 @@ use Rattle.bench_theorems.proofs.Laws.Beginning.{ring-n}
 use Rattle.bench_theorems.proofs.Laws.Ringing.{quiet-start}
 use Rattle.capture.specs.declared.record.Event.{Event}
 use Rattle.capture.specs.declared.record.Event.the-variants.{Delivered, LostForAddressee, LostForAll, Timer, Queue}
-use Rattle.replay.specs.Day.{Day, begunBy}
-use Rattle.replay.specs.Records.{afterRecord, eventNumber}
+use Rattle.day.specs.Day.{Day, begunBy}
+use Rattle.day.specs.Records.{afterRecord, eventNumber}
 use Rattle.replay.specs.Runs.{Record, good, bad, Course, recordNumber, turn, gone}
 use Rattle.replay_theorems.specs.Lines.{Line, recordLines, turnLines, runLines}
 use Rattle.replay_theorems.specs.Read.{AllRead}

@@ -7,9 +7,9 @@ use lib.Dec.{eqb}
 use borrow.Author.Tests.{eqb-true, eqb-false}
 use Rattle.parts.proofs.Laws.Choose.{pick-true, pick-false}
 use Rattle.capture.specs.declared.record.Event.{Event}
-use Rattle.replay.specs.Day.{Day}
-use Rattle.replay.specs.Records.{afterRecord, eventNumber}
-use Rattle.replay.specs.Printed.{stoppedText}
+use Rattle.day.specs.Day.{Day}
+use Rattle.day.specs.Records.{afterRecord, eventNumber}
+use Rattle.day.specs.Printed.{stoppedText}
 use Rattle.replay.specs.Runs.{Record, good, bad, Course, stopped, recordNumber, effect, effectText, turn, turnText, gone}
 use Rattle.replay_theorems.specs.Lines.{Line, stopped as stopLine, effectLines, turnLines}
 

@@ -25,9 +25,9 @@ use Rattle.bench.specs.Delivery.{isSent}
 use Rattle.bench.proofs.Laws.Delivered.{handed-outside}
 use Rattle.capture.specs.declared.record.Event.{Event}
 use Rattle.capture.specs.declared.record.Event.the-variants.{Delivered, LostForAddressee, LostForAll, Timer, Queue}
-use Rattle.replay.specs.declared.wire.Flying.{Flying}
-use Rattle.replay.specs.Day.{Day, mostFrames, memberAt, joining}
-use Rattle.replay.specs.Records.{hearers, answerOf, replyTo, afterFrame, takeFrame, afterCall, timerAnswer, afterRecord, eventNumber}
+use Rattle.day.specs.declared.wire.Flying.{Flying}
+use Rattle.day.specs.Day.{Day, mostFrames, memberAt, joining}
+use Rattle.day.specs.Records.{hearers, answerOf, replyTo, afterFrame, takeFrame, afterCall, timerAnswer, afterRecord, eventNumber}
 use Rattle.replay_theorems.specs.WholeDay.{MemberOf, Proper, WholeDay}
 use Rattle.replay_theorems.proofs.Laws.Placed.{Placed, timer-placed, queue-placed, queue-silent}
 use Rattle.replay_theorems.proofs.Laws.Handing.{frame-length, frame-at, frame-wire, call-length, call-here, call-other, call-wire, member-after, member-handed, joining-proper, joining-few, none-joins}

@@ -19,7 +19,7 @@ use Rattle.bench_theorems.proofs.Theorems.ReachedQuiet.{reached-quiet, reached-
 use Rattle.waiting.specs.Waiting.{spotFor, StaysOnTop, atQueue}
 use Rattle.waiting.proofs.Theorems.Bound.{bound}
 use Rattle.capture.specs.declared.record.Event.the-variants.{Queue}
-use Rattle.replay.specs.Day.{memberAt, begunBy, startDay}
+use Rattle.day.specs.Day.{memberAt, begunBy, startDay}
 use Rattle.replay.specs.Runs.{Record, good, Course, turn, gone, begun, recordsOf}
 use Rattle.replay_theorems.specs.Lines.{runLines}
 use Rattle.replay_theorems.specs.Read.{AllRead}

@@ -16,8 +16,8 @@ use Rattle.parts.proofs.Laws.Live.{seats-most}
 use Rattle.station.specs.declared.station.Station.{Station}
 use Rattle.bench.specs.Ring.{nobody}
 use Rattle.bench.specs.Text.{answerText}
-use Rattle.replay.specs.Day.{Day}
-use Rattle.replay.specs.Printed.{startText, endHeading, stationText, stationsText, endText}
+use Rattle.day.specs.Day.{Day}
+use Rattle.day.specs.Printed.{startText, endHeading, stationText, stationsText, endText}
 use Rattle.replay.specs.Runs.{Record, recordsFrom, recordsOf, Course, gone, goneText, begun, dayText, refusal, output}
 use Rattle.replay.specs.Replays.{courseOf, isOver, recordsNow, RanFrom}
 use Rattle.replay.specs.declared.run.Replay.{Replay}

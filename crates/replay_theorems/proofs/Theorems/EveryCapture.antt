@@ -12,8 +12,8 @@ use Rattle.codec.proofs.Laws.Bits.{bits-below}
 use Rattle.codec.proofs.Laws.Ring.{head-good, head-passed}
 use Rattle.parts.proofs.Laws.Choose.{pick-true, pick-false}
 use Rattle.capture.specs.Record.{captureNumber}
-use Rattle.replay.specs.Day.{Day}
-use Rattle.replay.specs.Printed.{startText, endText}
+use Rattle.day.specs.Day.{Day}
+use Rattle.day.specs.Printed.{startText, endText}
 use Rattle.replay.specs.Runs.{Record, gone, begun, dayText, recordsOf, refusal, output}
 use Rattle.replay_theorems.specs.Lines.{linesText, runLines}
 use Rattle.replay_theorems.specs.EveryCapture.{dayOf, Printed}

@@ -10,7 +10,7 @@ use Rattle.bench.specs.Ring.{ringWith}
 use Rattle.bench.specs.Runs.{Event as BenchEvent, stepped, queued as queueCall, afterEvent, composed, frames}
 use Rattle.bench.specs.declared.ring.Bench.{Bench}
 use Rattle.bench.specs.declared.rows.Row.{Row}
-use Rattle.replay.specs.Day.{begunBy, startDay}
+use Rattle.day.specs.Day.{begunBy, startDay}
 use Rattle.replay.specs.Runs.{Record, Course, begun, recordsOf}
 use Rattle.replay_theorems.specs.Lines.{Line, struck, sent, queued, stopped, sentLines, linesText}
 use Rattle.replay_theorems.specs.Read.{AllRead}

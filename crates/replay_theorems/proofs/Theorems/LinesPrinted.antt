@@ -15,10 +15,10 @@ use Rattle.bench.specs.Text.{rowsText}
 use Rattle.bench.specs.declared.rows.Row.{Row}
 use Rattle.capture.specs.declared.record.Event.{Event}
 use Rattle.capture.specs.declared.record.Event.the-variants.{Delivered, LostForAddressee, LostForAll, Timer, Queue}
-use Rattle.replay.specs.declared.wire.Flying.{Flying}
-use Rattle.replay.specs.Day.{Day, memberAt}
-use Rattle.replay.specs.Records.{hearers, replyTo, timerAnswer}
-use Rattle.replay.specs.Printed.{struckText, strikesText, frameText, takeText, timerText, recordText, stoppedText}
+use Rattle.day.specs.declared.wire.Flying.{Flying}
+use Rattle.day.specs.Day.{Day, memberAt}
+use Rattle.day.specs.Records.{hearers, replyTo, timerAnswer}
+use Rattle.day.specs.Printed.{struckText, strikesText, frameText, takeText, timerText, recordText, stoppedText}
 use Rattle.replay.specs.Runs.{Record, good, bad, Course, recordNumber, effectText, turn, turnText, goneText}
 use Rattle.replay_theorems.specs.Lines.{Line, sent, queued, stopped, lineText, linesText, struckLine, sentLines, struckLines, takenLines, timerLines, recordLines, effectLines, turnLines, runLines}
 use Rattle.replay_theorems.proofs.Laws.Turning.{Turns, over, stops, goes, turns}

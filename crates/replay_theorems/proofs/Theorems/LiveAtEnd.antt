@@ -12,7 +12,7 @@ use Rattle.station_theorems.proofs.Theorems.Whole.{whole-is}
 use Rattle.bench_theorems.proofs.Laws.Beginning.{ring-n}
 use Rattle.bench_theorems.proofs.Laws.FullSet.{full-live}
 use Rattle.bench_theorems.proofs.Laws.Ringing.{quiet-start}
-use Rattle.replay.specs.Day.{Day, memberAt, startDay}
+use Rattle.day.specs.Day.{Day, memberAt, startDay}
 use Rattle.replay.specs.Runs.{Record, good, bad, Course, recordNumber, effect, turn, gone, begun}
 use Rattle.replay_theorems.specs.Lines.{Line, effectLines, turnLines, runLines}
 use Rattle.replay_theorems.specs.Strikes.{struckBy}

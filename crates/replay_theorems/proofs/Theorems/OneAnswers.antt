@@ -13,9 +13,9 @@ use Rattle.station.specs.declared.station.Answer.{Answer}
 use Rattle.bench.proofs.Laws.Delivered.{handed-outside}
 use Rattle.capture.specs.declared.record.Event.{Event}
 use Rattle.capture.specs.declared.record.Event.the-variants.{Delivered, LostForAddressee, LostForAll, Timer, Queue}
-use Rattle.replay.specs.declared.wire.Flying.{Flying}
-use Rattle.replay.specs.Day.{Day, mostFrames, memberAt, startDay}
-use Rattle.replay.specs.Records.{hearers, answerOf, replyTo, afterFrame, takeFrame, afterRecord}
+use Rattle.day.specs.declared.wire.Flying.{Flying}
+use Rattle.day.specs.Day.{Day, mostFrames, memberAt, startDay}
+use Rattle.day.specs.Records.{hearers, answerOf, replyTo, afterFrame, takeFrame, afterRecord}
 use Rattle.replay.specs.Runs.{Record, gone, begun}
 use Rattle.replay_theorems.specs.WholeDay.{WholeDay}
 use Rattle.replay_theorems.specs.OneAnswers.{isFrame, FrameRecord}

@@ -20,10 +20,10 @@ use Rattle.bench.specs.Rows.{rowOn}
 use Rattle.bench.specs.Delivery.{isSent}
 use Rattle.bench.specs.Text.{rowsText}
 use Rattle.capture.specs.declared.record.Event.the-variants.{Timer, Queue}
-use Rattle.replay.specs.declared.wire.Flying.{Flying}
-use Rattle.replay.specs.Day.{Day, mostFrames, memberAt, joining}
-use Rattle.replay.specs.Records.{answerOf, afterCall, timerAnswer, afterRecord, eventNumber}
-use Rattle.replay.specs.Printed.{struckText, timerText, recordText}
+use Rattle.day.specs.declared.wire.Flying.{Flying}
+use Rattle.day.specs.Day.{Day, mostFrames, memberAt, joining}
+use Rattle.day.specs.Records.{answerOf, afterCall, timerAnswer, afterRecord, eventNumber}
+use Rattle.day.specs.Printed.{struckText, timerText, recordText}
 use Rattle.replay_theorems.specs.Refused.{NothingHappens}
 use Rattle.replay_theorems.proofs.Laws.Handing.{handed-keeps, none-joins}
 

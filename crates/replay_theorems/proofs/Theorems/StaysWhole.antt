@@ -2,7 +2,7 @@
 -- whenever timers run. Assumes nothing.
 use mathlib.Core.List.{List}
 use Prim.Native.Nat.{ℕ, _≤_}
-use Rattle.replay.specs.Day.{startDay}
+use Rattle.day.specs.Day.{startDay}
 use Rattle.replay.specs.Runs.{Record, gone, begun}
 use Rattle.replay_theorems.specs.WholeDay.{WholeDay}
 use Rattle.replay_theorems.proofs.Laws.Turning.{run-keeps}

@@ -5,8 +5,8 @@ use mathlib.Core.List.{List, [], _∷_, _++_, append-assoc, append-nil}
 use Prim.Native.Nat.{ℕ, suc, _+_}
 use native.Mathlib.Omega.{arith}
 use lib.ListN.{length}
-use Rattle.replay.specs.Day.{Day}
-use Rattle.replay.specs.Printed.{startText, stoppedText, endText}
+use Rattle.day.specs.Day.{Day}
+use Rattle.day.specs.Printed.{startText, stoppedText, endText}
 use Rattle.replay.specs.Runs.{Record, good, bad, Course, stopped, recordNumber, turn, turnText, gone, goneText, begun, dayText, recordsOf}
 use Rattle.replay.proofs.Laws.Running.{gone-one, text-one, gone-none}
 use Rattle.replay_theorems.specs.Read.{IsRead, AllRead}

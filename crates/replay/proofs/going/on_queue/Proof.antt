@@ -1,7 +1,7 @@
 -- `going::on_queue` meets its contract: its number, where it is refused.
 use mathlib.Core.Path.{_≡_, refl, sym, ap, _∙_}
 use Prim.Native.Nat.{ℕ, _+_}
-use Rattle.replay.specs.Wire.{flyingOf}
+use Rattle.day.specs.Wire.{flyingOf}
 use Rattle.replay.specs.Table.{wayOf, movedOn}
 use borrow.Author.Needs.{needs}
 use Rattle.replay.proofs.going.on_queue.Statement.{statement}

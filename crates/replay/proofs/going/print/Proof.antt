@@ -2,7 +2,8 @@
 use mathlib.Core.Path.{ap}
 use native.Mathlib.Omega.{arith}
 use Rattle.bench.specs.declared.table.Handing.{Handing}
-use Rattle.replay.specs.Table.{wayOf, takenOf}
+use Rattle.replay.specs.Table.{wayOf}
+use Rattle.day.specs.Strikes.{takenOf}
 use Rattle.replay.proofs.Laws.Turns.{read-event, read-refused, read-end, event-place, plan-most, same-done}
 use borrow.Author.Needs.{needs}
 use Rattle.replay.proofs.going.print.Statement.{statement}

@@ -1,7 +1,7 @@
 -- `going::stop` meets its contract: one line.
 use mathlib.Core.Path.{_≡_, refl, sym, ap, _∙_}
 use Prim.Native.Nat.{ℕ}
-use Rattle.replay.specs.Wire.{flyingOf}
+use Rattle.day.specs.Wire.{flyingOf}
 use Rattle.replay.specs.Table.{wayOf, movedOn}
 use borrow.Author.Needs.{needs}
 use Rattle.replay.proofs.going.stop.Statement.{statement}

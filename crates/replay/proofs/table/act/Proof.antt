@@ -43,10 +43,11 @@ use Rattle.bench.specs.Ring.{nobody}
 use Rattle.bench.specs.Delivery.{handed, delivered, isQuiet}
 use Rattle.bench.specs.Table.{hears}
 use Rattle.bench.proofs.Laws.Again.{LentAgain, lends-again, comes-back}
-use Rattle.replay.specs.Table.{keptBy, takenIn, handedIn, calledIn}
+use Rattle.day.specs.Calls.{keptBy}
+use Rattle.replay.specs.Table.{takenIn, handedIn, calledIn}
 use Rattle.station.specs.declared.station.Station.{Station}
 use Rattle.bench.specs.declared.table.Handing.{Handing}
-use Rattle.replay.specs.declared.calls.Call.{Call}
+use Rattle.day.specs.declared.calls.Call.{Call}
 use Rattle.parts.specs.declared.frame.Dispatch.{Dispatch}
 use Rattle.bench.proofs.table.hand.Symbol.{name as #hand}
 use Rattle.replay.proofs.table.call_at.Symbol.{name as #call}
@@ -55,8 +56,8 @@ use Rattle.station.proofs.station.Station as T
 use denote.Struct.Laws as LL
 use Rattle.bench.proofs.table.Handing as Handing-row
 use Rattle.bench.proofs.table.Handing.Laws as Handing-row′
-use Rattle.replay.proofs.calls.Call as Call-row
-use Rattle.replay.proofs.calls.Call.Laws as Call-row′
+use Rattle.day.proofs.calls.Call as Call-row
+use Rattle.day.proofs.calls.Call.Laws as Call-row′
 use denote.Enum.Laws as EL
 use Rattle.parts.proofs.frame.Dispatch as Dispatch-row
 use Rattle.parts.proofs.frame.Dispatch.Laws as Dispatch-row′

@@ -45,7 +45,7 @@ use lib.Dec.{T as Holds}
 use Rattle.station.specs.declared.station.Station.{Station}
 use Rattle.parts.specs.declared.frame.Dispatch.{Dispatch}
 use Rattle.replay.specs.declared.going.Going.{Going}
-use Rattle.replay.specs.declared.calls.Call.{Call}
+use Rattle.day.specs.declared.calls.Call.{Call}
 use Rattle.bench.specs.declared.table.Handing.{Handing}
 use Rattle.replay.proofs.going.place_in.Symbol.{name as #pin}
 use Rattle.replay.proofs.going.call_in.Symbol.{name as #cin}
@@ -60,8 +60,8 @@ use Rattle.parts.proofs.frame.Dispatch.Laws as Dispatch-row′
 use denote.Enum.Laws as EL
 use Rattle.replay.proofs.going.Going as Going-row
 use Rattle.replay.proofs.going.Going.Laws as Going-row′
-use Rattle.replay.proofs.calls.Call as Call-row
-use Rattle.replay.proofs.calls.Call.Laws as Call-row′
+use Rattle.day.proofs.calls.Call as Call-row
+use Rattle.day.proofs.calls.Call.Laws as Call-row′
 use Rattle.bench.proofs.table.Handing as Handing-row
 use Rattle.bench.proofs.table.Handing.Laws as Handing-row′
 use Rattle.replay.proofs.going.place_in as pin

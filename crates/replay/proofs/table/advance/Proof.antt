@@ -38,14 +38,15 @@ use denote.Triple.Walked.{says, needs, Stays, gave-slice, stay-none, walkOf, Wal
 use denote.Exit.{yes}
 use Rattle.codec.specs.Octets.{laid}
 use Rattle.bench.proofs.Laws.Shared.{LentShared, lends-shared, shared-back}
-use Rattle.replay.specs.Table.{takenIn, tableIn, planIn, wayOf, wayAfter, textAfter, Ready, takenOf, afterRead, readText, toldIn}
+use Rattle.replay.specs.Table.{takenIn, tableIn, planIn, wayOf, wayAfter, textAfter, Ready, afterRead, readText, toldIn}
+use Rattle.day.specs.Strikes.{takenOf}
 use Rattle.replay.proofs.Laws.Marks.{advanced-named}
 use denote.Memory.{pointee}
 use lib.Dec.{T as Holds}
 use Rattle.station.specs.declared.station.Station.{Station}
 use Rattle.replay.specs.declared.going.Going.{Going}
 use Rattle.parts.specs.declared.live.Live.{Live}
-use Rattle.replay.specs.declared.calls.Told.{Told}
+use Rattle.day.specs.declared.calls.Told.{Told}
 use Rattle.parts.specs.declared.frame.Dispatch.{Dispatch}
 use Rattle.replay.proofs.table.strikers_for.Symbol.{name as #stf}
 use Rattle.replay.proofs.table.told_for.Symbol.{name as #tof}
@@ -59,8 +60,8 @@ use Rattle.replay.proofs.going.Going as Going-row
 use Rattle.replay.proofs.going.Going.Laws as Going-row′
 use Rattle.parts.proofs.live.Live as Live-row
 use Rattle.parts.proofs.live.Live.Laws as Live-row′
-use Rattle.replay.proofs.calls.Told as Told-row
-use Rattle.replay.proofs.calls.Told.Laws as Told-row′
+use Rattle.day.proofs.calls.Told as Told-row
+use Rattle.day.proofs.calls.Told.Laws as Told-row′
 use Rattle.parts.proofs.frame.Dispatch as Dispatch-row
 use Rattle.parts.proofs.frame.Dispatch.Laws as Dispatch-row′
 use denote.Enum.Laws as EL

@@ -39,25 +39,25 @@ use denote.Triple.Walked.{says, needs, Stays, stay-none, walkOf, Walks, ends-at,
 use denote.Exit.{yes}
 use denote.Shadow.{pureI}
 use denote.Lend.{Held}
-use Rattle.replay.specs.declared.calls.Call.{Call}
+use Rattle.day.specs.declared.calls.Call.{Call}
 use Rattle.station.specs.declared.station.Station.{Station}
-use Rattle.replay.specs.declared.calls.Kept.{Kept}
+use Rattle.day.specs.declared.calls.Kept.{Kept}
 use Rattle.bench.proofs.Laws.Layout.{size, fieldTypes, offset, place-fits}
 use Rattle.bench.specs.Ring.{nobody}
-use Rattle.replay.specs.Table.{keptBy}
-use Rattle.replay.proofs.calls.kept_by.Symbol.{name as #callee}
+use Rattle.day.specs.Calls.{keptBy}
+use Rattle.day.proofs.calls.kept_by.Symbol.{name as #callee}
 use Rattle.replay.proofs.table.call_at.Key.{name as #self}
-use Rattle.replay.proofs.calls.Call as Call-row
-use Rattle.replay.proofs.calls.Call.Laws as Call-row′
+use Rattle.day.proofs.calls.Call as Call-row
+use Rattle.day.proofs.calls.Call.Laws as Call-row′
 use denote.Enum.Laws as EL
 use Rattle.station.proofs.station.Station as T
 use Rattle.station.proofs.station.Station.Laws as T′
 use denote.Struct.Laws as LL
-use Rattle.replay.proofs.calls.Kept as D
-use Rattle.replay.proofs.calls.Kept.Laws as D′
-use Rattle.replay.proofs.calls.kept_by as callee
-use Rattle.replay.proofs.calls.kept_by.Symbol as callee-def
-use Rattle.replay.proofs.calls.kept_by.Met as callee-thm
+use Rattle.day.proofs.calls.Kept as D
+use Rattle.day.proofs.calls.Kept.Laws as D′
+use Rattle.day.proofs.calls.kept_by as callee
+use Rattle.day.proofs.calls.kept_by.Symbol as callee-def
+use Rattle.day.proofs.calls.kept_by.Met as callee-thm
 use Rattle.replay.proofs.table.call_at as self
 use Rattle.replay.proofs.table.call_at.Statement as stated
 use Rattle.replay.proofs.table.call_at.Code as code
@@ -183,4 +183,4 @@ call-at-spec 𝓤 H 𝓜 𝓖 𝓡 =
     entered 𝓤 H (tripleOf 𝓤 H (𝓖 .A) self.signature (self.spec 𝓤 H (𝓖 .A) (𝓜 .mem) (𝓡 .run)))
     (tables 𝓤 H 𝓜 𝓡 code.env .C) (tables 𝓤 H 𝓜 𝓡 code.env .Λ) #self code.function (code.unfolded 𝓤 H 𝓜 𝓡)
     (meets 𝓤 H (𝓖 .A) (givenOf 𝓤 H 𝓜 𝓖) (𝓜 .mem) (𝓡 .run) (tablesOf 𝓤 H 𝓜 (tables 𝓤 H 𝓜 𝓡 code.env))
-    (cited 𝓤 H (Called 𝓤 H (𝓖 .A) (𝓜 .mem) (𝓡 .run)) 𝓜 𝓡 code.env #callee callee-def.routine code.calls-replay·calls·kept-by (callee-thm.met 𝓤 H 𝓜 𝓖 𝓡)))
+    (cited 𝓤 H (Called 𝓤 H (𝓖 .A) (𝓜 .mem) (𝓡 .run)) 𝓜 𝓡 code.env #callee callee-def.routine code.calls-day·calls·kept-by (callee-thm.met 𝓤 H 𝓜 𝓖 𝓡)))

@@ -47,7 +47,7 @@ use denote.Exit.{yes}
 use Rattle.parts.specs.declared.live.Live.{Live}
 use Rattle.station.specs.declared.station.Station.{Station}
 use Rattle.bench.specs.declared.table.Handing.{Handing}
-use Rattle.replay.specs.Table.{strikesAt, marked, strikersOf}
+use Rattle.day.specs.Strikes.{strikesAt, marked, strikersOf}
 use Rattle.replay.proofs.Laws.Marks.{strikers-none, strikers-more}
 use Rattle.station.proofs.station.Station as T
 use Rattle.parts.proofs.live.Live as Lv
@@ -58,10 +58,10 @@ use Rattle.replay.proofs.table.strikes_at as ask
 use Rattle.replay.proofs.table.strikes_at.Symbol as ask-def
 use Rattle.replay.proofs.table.strikes_at.Symbol.{name as #ask}
 use Rattle.replay.proofs.table.strikes_at.Met as ask-thm
-use Rattle.replay.proofs.strikes.mark as mark
-use Rattle.replay.proofs.strikes.mark.Symbol as mark-def
-use Rattle.replay.proofs.strikes.mark.Symbol.{name as #mark}
-use Rattle.replay.proofs.strikes.mark.Met as mark-thm
+use Rattle.day.proofs.strikes.mark as mark
+use Rattle.day.proofs.strikes.mark.Symbol as mark-def
+use Rattle.day.proofs.strikes.mark.Symbol.{name as #mark}
+use Rattle.day.proofs.strikes.mark.Met as mark-thm
 use Rattle.replay.proofs.table.strikers.Key.{name as #self}
 use Rattle.replay.proofs.table.strikers as self
 use Rattle.replay.proofs.table.strikers.Statement as stated
@@ -281,4 +281,4 @@ strikers-spec 𝓤 H 𝓜 𝓖 𝓡 =
     (tables 𝓤 H 𝓜 𝓡 code.env .C) (tables 𝓤 H 𝓜 𝓡 code.env .Λ) #self code.function (code.unfolded 𝓤 H 𝓜 𝓡)
     (self-meets 𝓤 H (𝓖 .A) (givenOf 𝓤 H 𝓜 𝓖) (𝓜 .mem) (𝓡 .run) (tablesOf 𝓤 H 𝓜 (tables 𝓤 H 𝓜 𝓡 code.env))
     (cited 𝓤 H (Ask 𝓤 H (𝓖 .A) (𝓜 .mem) (𝓡 .run)) 𝓜 𝓡 code.env #ask ask-def.routine code.calls-replay·table·strikes-at (ask-thm.met 𝓤 H 𝓜 𝓖 𝓡))
-    (cited 𝓤 H (Mark 𝓤 H (𝓖 .A) (𝓜 .mem) (𝓡 .run)) 𝓜 𝓡 code.env #mark mark-def.routine code.calls-replay·strikes·mark (mark-thm.met 𝓤 H 𝓜 𝓖 𝓡)))
+    (cited 𝓤 H (Mark 𝓤 H (𝓖 .A) (𝓜 .mem) (𝓡 .run)) 𝓜 𝓡 code.env #mark mark-def.routine code.calls-day·strikes·mark (mark-thm.met 𝓤 H 𝓜 𝓖 𝓡)))

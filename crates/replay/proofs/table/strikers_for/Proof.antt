@@ -34,7 +34,8 @@ use denote.Triple.Clauses.{ensured, lasts}
 use denote.Triple.Table.{entered, cited}
 use denote.Triple.Walked.{says, needs, Stays, stay-none, walkOf, Walks, ends-at, walked, goes-none, walk-meets, stay-none-slice, goes-none-slice}
 use denote.Exit.{yes}
-use Rattle.replay.specs.Table.{strikersOf, span, noStrikers, takenIn, planIn, wayOf}
+use Rattle.day.specs.Strikes.{strikersOf, span, noStrikers}
+use Rattle.replay.specs.Table.{takenIn, planIn, wayOf}
 use Rattle.replay.proofs.Laws.Turns.{plan-most}
 use Rattle.replay.proofs.Laws.Marks.{marks-few, strikers-named}
 use lib.Dec.{T as Holds}
@@ -43,8 +44,8 @@ use Rattle.replay.specs.declared.going.Going.{Going}
 use Rattle.parts.specs.declared.live.Live.{Live}
 use Rattle.bench.specs.declared.table.Handing.{Handing}
 use Rattle.replay.proofs.going.handing_in.Symbol.{name as #hin}
-use Rattle.replay.proofs.strikes.span_of.Symbol.{name as #spn}
-use Rattle.replay.proofs.strikes.no_strikers.Symbol.{name as #nst}
+use Rattle.day.proofs.strikes.span_of.Symbol.{name as #spn}
+use Rattle.day.proofs.strikes.no_strikers.Symbol.{name as #nst}
 use Rattle.replay.proofs.table.strikers.Symbol.{name as #stk}
 use Rattle.replay.proofs.table.strikers_for.Key.{name as #self}
 use Rattle.station.proofs.station.Station as T
@@ -58,12 +59,12 @@ use Rattle.bench.proofs.table.Handing.Laws as Handing-row′
 use Rattle.replay.proofs.going.handing_in as hin
 use Rattle.replay.proofs.going.handing_in.Symbol as hin-def
 use Rattle.replay.proofs.going.handing_in.Met as hin-thm
-use Rattle.replay.proofs.strikes.span_of as spn
-use Rattle.replay.proofs.strikes.span_of.Symbol as spn-def
-use Rattle.replay.proofs.strikes.span_of.Met as spn-thm
-use Rattle.replay.proofs.strikes.no_strikers as nst
-use Rattle.replay.proofs.strikes.no_strikers.Symbol as nst-def
-use Rattle.replay.proofs.strikes.no_strikers.Met as nst-thm
+use Rattle.day.proofs.strikes.span_of as spn
+use Rattle.day.proofs.strikes.span_of.Symbol as spn-def
+use Rattle.day.proofs.strikes.span_of.Met as spn-thm
+use Rattle.day.proofs.strikes.no_strikers as nst
+use Rattle.day.proofs.strikes.no_strikers.Symbol as nst-def
+use Rattle.day.proofs.strikes.no_strikers.Met as nst-thm
 use Rattle.replay.proofs.table.strikers as stk
 use Rattle.replay.proofs.table.strikers.Symbol as stk-def
 use Rattle.replay.proofs.table.strikers.Met as stk-thm
@@ -253,6 +254,6 @@ strikers-for-spec 𝓤 H 𝓜 𝓖 𝓡 =
     (tables 𝓤 H 𝓜 𝓡 code.env .C) (tables 𝓤 H 𝓜 𝓡 code.env .Λ) #self code.function (code.unfolded 𝓤 H 𝓜 𝓡)
     (self-meets 𝓤 H (𝓖 .A) (givenOf 𝓤 H 𝓜 𝓖) (𝓜 .mem) (𝓡 .run) (tablesOf 𝓤 H 𝓜 (tables 𝓤 H 𝓜 𝓡 code.env))
     (cited 𝓤 H (Hin 𝓤 H (𝓖 .A) (𝓜 .mem) (𝓡 .run)) 𝓜 𝓡 code.env #hin hin-def.routine code.calls-replay·going·handing-in (hin-thm.met 𝓤 H 𝓜 𝓖 𝓡))
-    (cited 𝓤 H (Spn 𝓤 H (𝓖 .A) (𝓜 .mem) (𝓡 .run)) 𝓜 𝓡 code.env #spn spn-def.routine code.calls-replay·strikes·span-of (spn-thm.met 𝓤 H 𝓜 𝓖 𝓡))
-    (cited 𝓤 H (Nst 𝓤 H (𝓖 .A) (𝓜 .mem) (𝓡 .run)) 𝓜 𝓡 code.env #nst nst-def.routine code.calls-replay·strikes·no-strikers (nst-thm.met 𝓤 H 𝓜 𝓖 𝓡))
+    (cited 𝓤 H (Spn 𝓤 H (𝓖 .A) (𝓜 .mem) (𝓡 .run)) 𝓜 𝓡 code.env #spn spn-def.routine code.calls-day·strikes·span-of (spn-thm.met 𝓤 H 𝓜 𝓖 𝓡))
+    (cited 𝓤 H (Nst 𝓤 H (𝓖 .A) (𝓜 .mem) (𝓡 .run)) 𝓜 𝓡 code.env #nst nst-def.routine code.calls-day·strikes·no-strikers (nst-thm.met 𝓤 H 𝓜 𝓖 𝓡))
     (cited 𝓤 H (Stk 𝓤 H (𝓖 .A) (𝓜 .mem) (𝓡 .run)) 𝓜 𝓡 code.env #stk stk-def.routine code.calls-replay·table·strikers (stk-thm.met 𝓤 H 𝓜 𝓖 𝓡)))

@@ -42,17 +42,17 @@ use mathlib.Core.Bool.{Bool}
 use Rattle.station.specs.declared.station.Station.{Station}
 use Rattle.bench.proofs.Laws.Layout.{size, place-fits}
 use Rattle.bench.specs.Ring.{nobody}
-use Rattle.replay.specs.Table.{strikesBy}
-use Rattle.replay.proofs.strikes.strikes.Symbol.{name as #callee}
+use Rattle.day.specs.Strikes.{strikesBy}
+use Rattle.day.proofs.strikes.strikes.Symbol.{name as #callee}
 use Rattle.replay.proofs.table.strikes_at.Key.{name as #self}
 use Rattle.bench.proofs.table.Handing as Handing-row
 use Rattle.bench.proofs.table.Handing.Laws as Handing-row′
 use denote.Struct.Laws as LL
 use Rattle.station.proofs.station.Station as T
 use Rattle.station.proofs.station.Station.Laws as T′
-use Rattle.replay.proofs.strikes.strikes as callee
-use Rattle.replay.proofs.strikes.strikes.Symbol as callee-def
-use Rattle.replay.proofs.strikes.strikes.Met as callee-thm
+use Rattle.day.proofs.strikes.strikes as callee
+use Rattle.day.proofs.strikes.strikes.Symbol as callee-def
+use Rattle.day.proofs.strikes.strikes.Met as callee-thm
 use Rattle.replay.proofs.table.strikes_at as self
 use Rattle.replay.proofs.table.strikes_at.Statement as stated
 use Rattle.replay.proofs.table.strikes_at.Code as code
@@ -163,4 +163,4 @@ strikes-at-spec 𝓤 H 𝓜 𝓖 𝓡 =
     entered 𝓤 H (tripleOf 𝓤 H (𝓖 .A) self.signature (self.spec 𝓤 H (𝓖 .A) (𝓜 .mem) (𝓡 .run)))
     (tables 𝓤 H 𝓜 𝓡 code.env .C) (tables 𝓤 H 𝓜 𝓡 code.env .Λ) #self code.function (code.unfolded 𝓤 H 𝓜 𝓡)
     (meets 𝓤 H (𝓖 .A) (givenOf 𝓤 H 𝓜 𝓖) (𝓜 .mem) (𝓡 .run) (tablesOf 𝓤 H 𝓜 (tables 𝓤 H 𝓜 𝓡 code.env))
-    (cited 𝓤 H (Called 𝓤 H (𝓖 .A) (𝓜 .mem) (𝓡 .run)) 𝓜 𝓡 code.env #callee callee-def.routine code.calls-replay·strikes·strikes (callee-thm.met 𝓤 H 𝓜 𝓖 𝓡)))
+    (cited 𝓤 H (Called 𝓤 H (𝓖 .A) (𝓜 .mem) (𝓡 .run)) 𝓜 𝓡 code.env #callee callee-def.routine code.calls-day·strikes·strikes (callee-thm.met 𝓤 H 𝓜 𝓖 𝓡)))

@@ -37,25 +37,25 @@ use denote.Triple.Clauses.{ensured, lasts}
 use denote.Triple.Table.{entered, cited}
 use denote.Triple.Walked.{says, needs, Stays, stay-none, walkOf, Walks, ends-at, walked, goes-none, walk-meets, stay-none-slice, goes-none-slice}
 use denote.Exit.{yes}
-use Rattle.replay.specs.declared.calls.Call.{Call}
-use Rattle.replay.specs.declared.calls.Told.{Told}
+use Rattle.day.specs.declared.calls.Call.{Call}
+use Rattle.day.specs.declared.calls.Told.{Told}
 use Rattle.station.specs.declared.station.Station.{Station}
 use Rattle.bench.proofs.Laws.Layout.{size, place-fits}
 use Rattle.bench.specs.Ring.{nobody}
-use Rattle.replay.specs.Table.{toldBy}
-use Rattle.replay.proofs.calls.told_by.Symbol.{name as #callee}
+use Rattle.day.specs.Calls.{toldBy}
+use Rattle.day.proofs.calls.told_by.Symbol.{name as #callee}
 use Rattle.replay.proofs.table.told_at.Key.{name as #self}
-use Rattle.replay.proofs.calls.Call as Call-row
-use Rattle.replay.proofs.calls.Call.Laws as Call-row′
+use Rattle.day.proofs.calls.Call as Call-row
+use Rattle.day.proofs.calls.Call.Laws as Call-row′
 use denote.Enum.Laws as EL
-use Rattle.replay.proofs.calls.Told as Told-row
-use Rattle.replay.proofs.calls.Told.Laws as Told-row′
+use Rattle.day.proofs.calls.Told as Told-row
+use Rattle.day.proofs.calls.Told.Laws as Told-row′
 use denote.Struct.Laws as LL
 use Rattle.station.proofs.station.Station as T
 use Rattle.station.proofs.station.Station.Laws as T′
-use Rattle.replay.proofs.calls.told_by as callee
-use Rattle.replay.proofs.calls.told_by.Symbol as callee-def
-use Rattle.replay.proofs.calls.told_by.Met as callee-thm
+use Rattle.day.proofs.calls.told_by as callee
+use Rattle.day.proofs.calls.told_by.Symbol as callee-def
+use Rattle.day.proofs.calls.told_by.Met as callee-thm
 use Rattle.replay.proofs.table.told_at as self
 use Rattle.replay.proofs.table.told_at.Statement as stated
 use Rattle.replay.proofs.table.told_at.Code as code
@@ -166,4 +166,4 @@ told-at-spec 𝓤 H 𝓜 𝓖 𝓡 =
     entered 𝓤 H (tripleOf 𝓤 H (𝓖 .A) self.signature (self.spec 𝓤 H (𝓖 .A) (𝓜 .mem) (𝓡 .run)))
     (tables 𝓤 H 𝓜 𝓡 code.env .C) (tables 𝓤 H 𝓜 𝓡 code.env .Λ) #self code.function (code.unfolded 𝓤 H 𝓜 𝓡)
     (meets 𝓤 H (𝓖 .A) (givenOf 𝓤 H 𝓜 𝓖) (𝓜 .mem) (𝓡 .run) (tablesOf 𝓤 H 𝓜 (tables 𝓤 H 𝓜 𝓡 code.env))
-    (cited 𝓤 H (Called 𝓤 H (𝓖 .A) (𝓜 .mem) (𝓡 .run)) 𝓜 𝓡 code.env #callee callee-def.routine code.calls-replay·calls·told-by (callee-thm.met 𝓤 H 𝓜 𝓖 𝓡)))
+    (cited 𝓤 H (Called 𝓤 H (𝓖 .A) (𝓜 .mem) (𝓡 .run)) 𝓜 𝓡 code.env #callee callee-def.routine code.calls-day·calls·told-by (callee-thm.met 𝓤 H 𝓜 𝓖 𝓡)))

@@ -36,13 +36,14 @@ use denote.Triple.Table.{entered, cited}
 use denote.Triple.Walked.{says, needs, Stays, stay-none, walkOf, Walks, ends-at, walked, goes-none, walk-meets, stay-none-slice, goes-none-slice}
 use denote.Exit.{yes}
 use Rattle.bench.specs.Ring.{nobody}
-use Rattle.replay.specs.Table.{toldBy, planIn, wayOf, toldIn}
+use Rattle.day.specs.Calls.{toldBy}
+use Rattle.replay.specs.Table.{planIn, wayOf, toldIn}
 use Rattle.replay.proofs.Laws.Marks.{told-named}
 use lib.Dec.{T as Holds}
 use Rattle.station.specs.declared.station.Station.{Station}
 use Rattle.replay.specs.declared.going.Going.{Going}
-use Rattle.replay.specs.declared.calls.Told.{Told}
-use Rattle.replay.specs.declared.calls.Call.{Call}
+use Rattle.day.specs.declared.calls.Told.{Told}
+use Rattle.day.specs.declared.calls.Call.{Call}
 use Rattle.replay.proofs.going.place_in.Symbol.{name as #pin}
 use Rattle.replay.proofs.going.call_in.Symbol.{name as #cin}
 use Rattle.replay.proofs.table.told_at.Symbol.{name as #tat}
@@ -51,10 +52,10 @@ use Rattle.station.proofs.station.Station as T
 use denote.Struct.Laws as LL
 use Rattle.replay.proofs.going.Going as Going-row
 use Rattle.replay.proofs.going.Going.Laws as Going-row′
-use Rattle.replay.proofs.calls.Told as Told-row
-use Rattle.replay.proofs.calls.Told.Laws as Told-row′
-use Rattle.replay.proofs.calls.Call as Call-row
-use Rattle.replay.proofs.calls.Call.Laws as Call-row′
+use Rattle.day.proofs.calls.Told as Told-row
+use Rattle.day.proofs.calls.Told.Laws as Told-row′
+use Rattle.day.proofs.calls.Call as Call-row
+use Rattle.day.proofs.calls.Call.Laws as Call-row′
 use denote.Enum.Laws as EL
 use Rattle.replay.proofs.going.place_in as pin
 use Rattle.replay.proofs.going.place_in.Symbol as pin-def

@@ -5,10 +5,10 @@ use mathlib.Core.Path.{_≡_}
 use Rattle.parts.proofs.Laws.Messages.{length-mapped}
 use Rattle.bench.specs.Text.{heading}
 use Rattle.bench.proofs.Laws.Laying.{room-behind}
-use Rattle.replay.specs.Printed.{wireText}
-use Rattle.replay.specs.Wire.{flyingOf}
-use Rattle.replay.proofs.Laws.Lines.{calls-laid}
-use Rattle.replay.proofs.Laws.Starting.{wire-most}
+use Rattle.day.specs.Printed.{wireText}
+use Rattle.day.specs.Wire.{flyingOf}
+use Rattle.day.proofs.Laws.Lines.{calls-laid}
+use Rattle.day.proofs.Laws.Lined.{wire-most}
 use borrow.Author.Needs.{needs}
 use Rattle.replay.proofs.run.Replay.put_start.Statement.{statement}
 use Rattle.replay.proofs.run.Replay.put_start.Tie as tie

@@ -1,0 +1,7 @@
+pub mod Day
+pub mod Records
+pub mod Printed
+pub mod Wire
+pub mod Strikes
+pub mod Calls
+pub mod Plans
