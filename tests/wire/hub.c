@@ -8,14 +8,17 @@
  *     none
  *     addressee:K        every Kth frame is lost for its addressee only
  *     all:K              every Kth frame is lost for all
- *     waiting:ADDRESS    once, after 100 frames: the frame that acknowledges one of ADDRESS to a third station is
- *                        lost for ADDRESS alone
+ *     each:K:SEED        every station misses every frame with a chance of one in K
+ *     waiting:ADDRESS    once, after 100 frames: the frame that answers one of ADDRESS and goes to a third station is
+ *                        lost for ADDRESS alone; the hub then prints "lost"
+ *     grantor:ADDRESS    once: the four frames behind a transmit token of ADDRESS are lost for ADDRESS alone
  *
- * After SIGTERM it prints how many frames came in and how many were lost.
+ * After SIGTERM it prints how many frames came in and how many were lost; with "each", how many times one was missed.
  */
 #define _GNU_SOURCE
 #include <arpa/inet.h>
 #include <errno.h>
+#include <inttypes.h>
 #include <linux/if_packet.h>
 #include <net/if.h>
 #include <poll.h>
@@ -68,6 +71,15 @@ static void open_link(char *argument)
     count++;
 }
 
+/* One of a series of numbers that the seed decides (splitmix64). */
+static uint64_t draw(uint64_t *state)
+{
+    uint64_t z = *state += 0x9E3779B97F4A7C15;
+    z = (z ^ z >> 30) * 0xBF58476D1CE4E5B9;
+    z = (z ^ z >> 27) * 0x94D049BB133111EB;
+    return z ^ z >> 31;
+}
+
 static void write_frame(FILE *pcap, const uint8_t *frame, size_t len)
 {
     struct timespec t;
@@ -85,11 +97,14 @@ int main(int argc, char **argv)
     fwrite(heading, sizeof heading, 1, pcap);
     struct timespec pause = {.tv_nsec = atol(argv[2]) * 1000};
 
-    unsigned long to_addressee = 0, to_all = 0;
-    uint8_t waiting[6];
-    bool to_waiting = false;
+    unsigned long to_addressee = 0, to_all = 0, to_each = 0;
+    uint64_t series = 0;
+    uint8_t one[6]; /* the ADDRESS */
+    bool to_waiting = false, to_grantor = false;
     if (sscanf(argv[3], "addressee:%lu", &to_addressee) != 1 && sscanf(argv[3], "all:%lu", &to_all) != 1 &&
-        !(to_waiting = strncmp(argv[3], "waiting:", 8) == 0 && read_address(argv[3] + 8, waiting)) &&
+        sscanf(argv[3], "each:%lu:%" SCNu64, &to_each, &series) != 2 &&
+        !(to_waiting = strncmp(argv[3], "waiting:", 8) == 0 && read_address(argv[3] + 8, one)) &&
+        !(to_grantor = strncmp(argv[3], "grantor:", 8) == 0 && read_address(argv[3] + 8, one)) &&
         strcmp(argv[3], "none") != 0)
         return 2;
     for (int i = 4; i < argc; i++) open_link(argv[i]);
@@ -99,7 +114,7 @@ int main(int argc, char **argv)
     puts("ready");
     fflush(stdout);
 
-    unsigned long frames = 0, lost = 0;
+    unsigned long frames = 0, lost = 0, behind = 0; /* behind: so many more are lost for the grantor */
     uint8_t frame[FRAME], last[18] = {0};
     while (!stopped) {
         if (poll(polls, (nfds_t)count, 100) < 0 && errno != EINTR) fail("poll");
@@ -113,20 +128,34 @@ int main(int argc, char **argv)
             if (count == 1) continue;
             if (pause.tv_nsec != 0) nanosleep(&pause, NULL);
 
-            /* the frame before was from the waiting station, and this one, to a third, is its acknowledgement */
+            /* the frame before was from the waiting station, and this one, to a third, is its addressee's answer */
             uint16_t number = (uint16_t)(frame[16] << 8 | frame[17]), before = (uint16_t)(last[16] << 8 | last[17]);
-            bool acknowledges = to_waiting && frames > 100 && memcmp(last + 6, waiting, 6) == 0 &&
-                                memcmp(last, frame + 6, 6) == 0 && memcmp(frame, waiting, 6) != 0 &&
-                                number == (uint16_t)(before + 1);
+            bool answers = to_waiting && frames > 100 && memcmp(last + 6, one, 6) == 0 &&
+                           memcmp(last, frame + 6, 6) == 0 && memcmp(frame, one, 6) != 0 &&
+                           number == (uint16_t)(before + 1);
             bool none = to_all != 0 && frames % to_all == 0;
             bool not_addressee = to_addressee != 0 && frames % to_addressee == 0;
-            if (acknowledges) to_waiting = false;
-            if (acknowledges || none || not_addressee) lost++;
+            if (answers) {
+                to_waiting = false;
+                puts("lost");
+                fflush(stdout);
+            }
+            bool not_one = answers || behind != 0;
+            if (behind != 0) behind--;
+            if (to_grantor && frame[14] == 2 && memcmp(frame + 6, one, 6) == 0) {
+                to_grantor = false;
+                behind = 4;
+            }
+            if (not_one || none || not_addressee) lost++;
             memcpy(last, frame, sizeof last);
             for (int j = 0; j < count && !none; j++) {
                 if (j == i || (not_addressee && memcmp(addresses[j], frame, 6) == 0) ||
-                    (acknowledges && memcmp(addresses[j], waiting, 6) == 0))
+                    (not_one && memcmp(addresses[j], one, 6) == 0))
                     continue;
+                if (to_each != 0 && draw(&series) % to_each == 0) {
+                    lost++;
+                    continue;
+                }
                 if (send(polls[j].fd, frame, (size_t)got, 0) < 0 && errno != ENOBUFS)
                     fail("send");
             }

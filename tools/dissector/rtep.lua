@@ -8,6 +8,9 @@
 -- book's number: 10, 11 or 12. Whether an address belongs to the ring is only looked at where the preference rtep.ring
 -- names its members: -o "rtep.ring:02:00:00:00:00:01 02:00:00:00:00:02". An address that no ring can have is always
 -- marked.
+--
+-- rtep.acknowledges are the frames of the capture that a frame acknowledges: of each station that waits, the one it sent
+-- last. The capture shows what was sent and not who heard it: a station that missed the frame waits on, for the next one.
 
 local ETHERNET_TYPE = 0x1000
 local LEAST, MOST, INFORMATION_MOST = 46, 1500, 1492
@@ -36,6 +39,7 @@ local field = {
     unread = ProtoField.bytes("rtep.unread", "Octets not read"),
     wire = ProtoField.uint16("rtep.wire", "Octets on the wire"),
     refused = ProtoField.uint8("rtep.refused", "Refused with"),
+    acknowledges = ProtoField.framenum("rtep.acknowledges", "Acknowledges frame", base.NONE, frametype.ACK),
 }
 rtep.fields = field
 
@@ -49,7 +53,12 @@ local refusal = {
 }
 rtep.experts = { refusal[10], refusal[11], refusal[12] }
 
--- The preference, read again only when it changes: nil, or a table with the members' octets as keys.
+-- An address as a frame's header shows it, which may be a name, from its octets.
+local function shown(octets)
+    return tostring(Address.ether((octets:gsub("(%x%x)", "%1:"):sub(1, -2))))
+end
+
+-- The preference, read again only when it changes: nil, or a table with the members as keys, both ways.
 local read_from, members = "", nil
 local function ring()
     if rtep.prefs.ring ~= read_from then
@@ -57,7 +66,11 @@ local function ring()
         members = nil
         for word in read_from:gmatch("%S+") do
             members = members or {}
-            members[word:gsub("[:-]", ""):lower()] = true
+            local octets = word:gsub("[:-]", ""):lower()
+            members[octets] = true
+            if octets:find("^" .. ("%x"):rep(12) .. "$") then
+                members[shown(octets)] = true
+            end
         end
     end
     return members
@@ -93,7 +106,7 @@ end
 
 -- What lies behind the first four octets of a token or a transmit token.
 local function token(packet, tree, kind, bad)
-    local words = ""
+    local words, failing = "", nil
     local function station(what, name, at)
         local range = packet(at, 6)
         local octets = range:bytes():tohex(true)
@@ -105,6 +118,7 @@ local function token(packet, tree, kind, bad)
             elseif kind == TRANSMIT then
                 bad(item, 12, "A transmit token's failing station is not zero")
             end
+            failing = octets
         end
         words = words .. ", " .. name .. " " .. octets:gsub("(%x%x)", "%1:"):sub(1, -2)
         local why = not_a_member(octets)
@@ -120,7 +134,7 @@ local function token(packet, tree, kind, bad)
     if octets > LEAST then
         bad(add(tree, field.beyond, packet, LEAST, octets - LEAST) or tree, 12, "A token has 46 octets")
     end
-    return words
+    return words, failing
 end
 
 local function information(packet, tree, bad)
@@ -144,6 +158,36 @@ local function information(packet, tree, bad)
     return ", channel " .. channel .. ", " .. length .. " octets"
 end
 
+-- Who waits, as far as the capture shows: for each station its last frame, until another acknowledges it. Frames are looked
+-- at once, in the order of the capture, and what one acknowledges is kept for when it is shown again.
+local waiting, struck, acknowledged = {}, {}, {}
+
+function rtep.init()
+    waiting, struck, acknowledged = {}, {}, {}
+end
+
+local function acknowledge(pinfo, number, failing)
+    local from, to, known = tostring(pinfo.dl_src), tostring(pinfo.dl_dst), ring()
+    if from == to or struck[from] or (known and not (known[from] and known[to])) then
+        return
+    end
+    local frames = {}
+    for station, sent in pairs(waiting) do
+        local ahead = (number - sent.number) % 65536
+        if station ~= from and 1 <= ahead and ahead <= 32767 then
+            table.insert(frames, sent.frame)
+            waiting[station] = nil
+        end
+    end
+    table.sort(frames)
+    acknowledged[pinfo.number] = frames
+    waiting[from] = { number = number, frame = pinfo.number }
+    if failing then
+        struck[shown(failing)] = true
+        waiting[shown(failing)] = nil
+    end
+end
+
 function rtep.dissector(packet, pinfo, root)
     pinfo.cols.protocol = "RT-EP"
     local tree = root:add(rtep, packet())
@@ -153,12 +197,13 @@ function rtep.dissector(packet, pinfo, root)
         item:add_proto_expert_info(refusal[number], words)
     end
 
-    local octets, words = packet:reported_len(), ""
+    local octets, words, number, failing = packet:reported_len(), "", nil, nil
     if octets < LEAST or octets > MOST then
         bad(tree:add(field.unread, packet()), 10, octets .. " octets: a packet has 46 to 1,500")
         words = octets .. " octets"
     else
-        local kind, priority, number = packet(0, 1):uint(), packet(1, 1):uint(), packet(2, 2):uint()
+        local kind, priority = packet(0, 1):uint(), packet(1, 1):uint()
+        number = packet(2, 2):uint()
         local item = tree:add(field.identifier, packet(0, 1))
         if not kinds[kind] then
             bad(item, 11, "Identifier " .. kind .. " is not 1 to 3")
@@ -171,11 +216,13 @@ function rtep.dissector(packet, pinfo, root)
             end
             tree:add(field.number, packet(2, 2))
             words = kinds[kind] .. " " .. number .. ", priority " .. priority
+            local rest
             if kind == INFORMATION then
-                words = words .. information(packet, tree, bad)
+                rest = information(packet, tree, bad)
             else
-                words = words .. token(packet, tree, kind, bad)
+                rest, failing = token(packet, tree, kind, bad)
             end
+            words = words .. rest
         end
     end
 
@@ -183,6 +230,11 @@ function rtep.dissector(packet, pinfo, root)
     if refused then
         tree:add(field.refused, refused):set_generated()
         words = words .. " [malformed: " .. refused .. "]"
+    elseif not pinfo.visited then
+        acknowledge(pinfo, number, failing)
+    end
+    for _, frame in ipairs(acknowledged[pinfo.number] or {}) do
+        tree:add(field.acknowledges, frame):set_generated()
     end
     tree:append_text(": " .. words)
     pinfo.cols.info = words

@@ -1,7 +1,7 @@
 -- Frames over ring positions.
 use mathlib.Core.Bool.{Bool, true, false, not}
 use mathlib.Core.List.{List, [], _∷_}
-use Prim.Native.Nat.{ℕ, _+_, _%_, _^_}
+use Prim.Native.Nat.{ℕ, _+_, _-_, _%_, _^_}
 use lib.Dec.{ltb, leb, eqb}
 use Rattle.codec.specs.Sizes.{mostInformation}
 use Rattle.parts.specs.Choose.{pick, allOf}
@@ -64,7 +64,16 @@ fit n (Token t) = fitToken n t
 fit n (Transmit t) = fitTransmit n t
 fit n (Information i) = fitInformation i
 
--- a frame `from` with the number k acknowledges the awaited one: it is from its addressee, with the number after its own
+-- how far the number k lies ahead of j, counted around 65,536
+abbrev pub ahead : ℕ → ℕ → ℕ
+ahead j k = (k + 2 ^ 16 - j % 2 ^ 16) % 2 ^ 16
+
+-- "1 to 32,767 ahead"
+unfoldable pub isAhead : ℕ → ℕ → Bool
+isAhead j k = pick (leb 1 (ahead j k)) (leb (ahead j k) 32767) false
+
+-- a frame `from` with the number k acknowledges the awaited one: "any frame from a live station whose number is 1 to 32,767 ahead of the
+-- number of the waiting station's own frame", whatever its kind, to whomever, and from whichever station the checks have found live
 unfoldable pub acknowledges : Dispatch → ℕ → ℕ → Bool
 acknowledges Nothing from k = false
-acknowledges (Sent frame to) from k = pick (eqb from to) (eqb k (next (numberOf frame))) false
+acknowledges (Sent frame to) from k = isAhead (numberOf frame) k

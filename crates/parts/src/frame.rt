@@ -3,6 +3,8 @@ ghost use mathlib.Core.Path.{_≡_};
 ghost use Rattle.parts.specs.Frames.{
   numberOf,
   failingOf,
+  ahead,
+  isAhead,
   acknowledges,
   next,
   flightIn,
@@ -175,20 +177,33 @@ pub fn failing_of(f: Frame) -> Whom
     }
 }
 
-// Whether a frame `from` with the number `k` acknowledges the awaited one.
+// How far the number `k` lies ahead of `j`, counted around 65,536.
+pub fn ahead(j: u16, k: u16) -> u16
+    ensures { λ r. ⌜ r ≡ ahead j k ⌝ }
+{
+    std::num::wrapping_sub_u16(k, j)
+}
+
+// Whether it lies 1 to 32,767 ahead.
+pub fn is_ahead(j: u16, k: u16) -> bool
+    ensures { λ r. ⌜ r ≡ isAhead j k ⌝ }
+{
+    let distance = ahead(j, k);
+    if 1 <= distance {
+        return distance <= 32767;
+    }
+    false
+}
+
+// Whether a frame `from` with the number `k` acknowledges the awaited one: whoever it is from.
 pub fn acknowledges(awaited: Dispatch, from: u8, k: u16) -> bool
     ensures { λ r. ⌜ r ≡ acknowledges awaited from k ⌝ }
 {
     match awaited {
         Dispatch::Nothing => false,
-        Dispatch::Sent { frame, to } => {
-            if from == to {
-                let own = number_of(frame);
-                let next = next(own);
-                k == next
-            } else {
-                false
-            }
+        Dispatch::Sent { frame, to: _ } => {
+            let own = number_of(frame);
+            is_ahead(own, k)
         }
     }
 }

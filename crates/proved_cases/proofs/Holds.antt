@@ -12,7 +12,7 @@ use Rattle.station.specs.Start.{started, startRule}
 use Rattle.sent.specs.Round.{startRound, sendHead, grant, returned, cleared, raised, passOn, onToken, reply}
 use Rattle.station.specs.Heard.{acknowledged, landed, acknowledge, strikeOther, strikeHeard, failed, isLast, nothingMore, receive, stored, handle, respond, heard, frameRule}
 use Rattle.parts.specs.Refusals.{heardRefusal}
-use Rattle.parts.specs.Frames.{acknowledges}
+use Rattle.parts.specs.Frames.{isAhead, acknowledges}
 use Rattle.station.specs.Strike.{giveUpTo, giveUpAt, giveUpFlight}
 use Rattle.parts.specs.Live.{newly}
 use Rattle.station.specs.Queue.{accepted, queueRule}
@@ -29,5 +29,5 @@ use Rattle.waiting.specs.Waiting.{own, before, shorts, octetsOnWire}
 use Rattle.proved_cases.specs.Cases.{Case, cases}
 
 pub all-hold : map (λ (c : Case). c .given) cases ≡ map (λ (c : Case). c .page) cases
-unfolding cases bits addressesOf badAddress position ringRefusal ringIn readRing addressOctets ringFile pick allOf every full after seek successor pack pushed fits only splitBy betterOf bestOf best hasPlace freeFrom lowestFree addUpTo head moved unless started startRule startRound sendHead grant returned cleared raised passOn onToken reply heardRefusal acknowledges acknowledged landed acknowledge strikeOther strikeHeard failed isLast nothingMore receive stored handle respond heard frameRule newly giveUpTo giveUpAt giveUpFlight queueRefusal accepted queueRule nobody onWire startAt startDown ringWith queue handed delivered replyOf deliverTo stepOn step steps rowOf rowOn afterEvent composed final frames stepping width decimal cell frontText endsText backText rowText rowsText answerText words valueFrom isNumber same shaped lineOfWords lineOf linesOf opens does prints printed output own before shorts octetsOnWire
+unfolding cases bits addressesOf badAddress position ringRefusal ringIn readRing addressOctets ringFile pick allOf every full after seek successor pack pushed fits only splitBy betterOf bestOf best hasPlace freeFrom lowestFree addUpTo head moved unless started startRule startRound sendHead grant returned cleared raised passOn onToken reply heardRefusal isAhead acknowledges acknowledged landed acknowledge strikeOther strikeHeard failed isLast nothingMore receive stored handle respond heard frameRule newly giveUpTo giveUpAt giveUpFlight queueRefusal accepted queueRule nobody onWire startAt startDown ringWith queue handed delivered replyOf deliverTo stepOn step steps rowOf rowOn afterEvent composed final frames stepping width decimal cell frontText endsText backText rowText rowsText answerText words valueFrom isNumber same shaped lineOfWords lineOf linesOf opens does prints printed output own before shorts octetsOnWire
 all-hold = refl

@@ -70,7 +70,16 @@ cases =
     ∷ record { given = file 64 15; page = 0x1F ∷ 0xFC ∷ 386 ∷ [] }
     ∷ record { given = back 64 15; page = 0 ∷ 64 ∷ 15 ∷ [] }
     ∷ record { given = wire 0 ∷ wire 38 ∷ wire 39 ∷ wire 1492 ∷ []; page = 72 ∷ 72 ∷ 73 ∷ 1526 ∷ [] }
-    ∷ record { given = acknowledgedBy 65535 0 1 ∷ acknowledgedBy 65535 0 2 ∷ acknowledgedBy 65535 1 1 ∷ []; page = 1 ∷ 0 ∷ 0 ∷ [] }
+    ∷ record { given = acknowledgedBy 65535 0 1 ∷ acknowledgedBy 65535 0 2 ∷ acknowledgedBy 65535 1 1 ∷ []; page = 1 ∷ 1 ∷ 1 ∷ [] }
+    -- 0, 1, 32,767 and 32,768 ahead: of 11, from the addressee, and of 65,535, from another
+    ∷ record {
+      given = acknowledgedBy 11 11 1 ∷ acknowledgedBy 11 12 1 ∷ acknowledgedBy 11 32778 1 ∷ acknowledgedBy 11 32779 1 ∷ [];
+      page = 0 ∷ 1 ∷ 1 ∷ 0 ∷ [];
+    }
+    ∷ record {
+      given = acknowledgedBy 65535 65535 2 ∷ acknowledgedBy 65535 0 2 ∷ acknowledgedBy 65535 32766 2 ∷ acknowledgedBy 65535 32767 2 ∷ [];
+      page = 0 ∷ 1 ∷ 1 ∷ 0 ∷ [];
+    }
     -- the ten frames
     ∷ record {
       given = bench ("ring 3" ∷ "queue 1 2 5 0 100" ∷ "queue 0 1 9 0 0" ∷ "step 9" ∷ []);

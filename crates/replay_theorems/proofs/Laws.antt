@@ -9,3 +9,5 @@ pub mod LiveRecords
 pub mod Reading
 pub mod OnBench
 pub mod SameRun
+pub mod Offsets
+pub mod Calling

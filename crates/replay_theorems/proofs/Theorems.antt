@@ -8,3 +8,5 @@ pub mod FaultFree
 pub mod BoundHolds
 pub mod EveryCapture
 pub mod Refused
+pub mod Calls
+pub mod CallsEnd

@@ -7,3 +7,4 @@ pub mod Stops
 pub mod FaultFree
 pub mod EveryCapture
 pub mod Refused
+pub mod Calls

@@ -62,9 +62,10 @@ pub fn day(random: &mut Random) -> Made {
     Made { ring: file, capture }
 }
 
-/// The longest capture on the largest ring: messages and frames, and where it is `lossy`, lost frames and timers too.
-pub fn longest(random: &mut Random, lossy: bool) -> Made {
-    let ring = Ring { retry_limit: 1, addresses: (1..=64).collect() };
+/// The longest capture on the largest ring: messages and frames, and where it is `lossy`, lost frames and timers too. With a
+/// retry limit of 1 such a ring soon falls apart, and with 15 it lives on.
+pub fn longest(random: &mut Random, lossy: bool, retry_limit: u64) -> Made {
+    let ring = Ring { retry_limit, addresses: (1..=64).collect() };
     let temper = if lossy { Temper::Lossy } else { Temper::Quiet };
     let capture = capture::capture(&events(random, &ring, temper, MOST_RECORDS));
     Made { ring: written(&ring), capture }
@@ -92,8 +93,8 @@ pub fn edges(random: &mut Random) -> Vec<Made> {
         }
     }
     for lossy in [false, true] {
-        made.push(longest(random, lossy));
-        let Made { ring, mut capture } = longest(random, lossy);
+        made.push(longest(random, lossy, 1));
+        let Made { ring, mut capture } = longest(random, lossy, 1);
         capture.extend(Event::Delivered.octets());
         made.push(Made { ring, capture });
     }

@@ -152,9 +152,9 @@ impl Made {
         self.queue(to, priority, 0, 10).after
     }
 
-    /// It hears `from` tell `to` that `fails` fails.
+    /// It hears `from` tell `to` that `fails` fails, with a number that acknowledges no frame here.
     fn told(&self, fails: usize, from: usize, to: usize) -> Made {
-        self.heard(token(20, 0, from, from).failing(fails).way(from, to))
+        self.heard(token(9, 0, from, from).failing(fails).way(from, to))
     }
 
     /// Station 1 has passed on the token 10 of master 0, with priority 5, as 11 to its successor.
@@ -527,9 +527,14 @@ fn acknowledged(told: &mut Told) {
     let s = idle(1).passed(0);
     let f = token(12, 5, 0, 0).way(2, 3);
     told.frame("from its addressee with the number after its own frame's, becomes Idle", &s, f);
-    told.frame("another number, still Waiting", &s, token(13, 5, 0, 0).way(2, 3));
+    told.frame("a later number, becomes Idle", &s, token(13, 5, 0, 0).way(2, 3));
+    told.frame("another sender, becomes Idle", &s, f.way(3, 0));
+    told.frame("another kind to another, becomes Idle", &s, transmit(15, 5, 3, 0).way(3, 0));
+    told.frame("another sender and kind, then handled", &s, transmit(15, 5, 3, 1).way(3, 1));
     told.frame("its own frame's number, still Waiting", &s, token(11, 5, 0, 0).way(2, 3));
-    told.frame("another sender, still Waiting", &s, f.way(3, 0));
+    told.frame("32,767 ahead, becomes Idle", &s, token(32778, 5, 0, 0).way(2, 3));
+    told.frame("32,768 ahead, still Waiting", &s, token(32779, 5, 0, 0).way(2, 3));
+    told.frame("the number before, still Waiting", &s, token(10, 5, 0, 0).way(2, 3));
     told.frame("not Waiting, nothing to acknowledge", &idle(1), f);
     let last = idle(1).heard(token(65534, 5, 0, 0));
     told.frame("number 65,535 by 0", &last, token(0, 5, 0, 0).way(2, 3));
@@ -537,7 +542,11 @@ fn acknowledged(told: &mut Told) {
     let s = idle(1).with(3, 7).granted();
     let f = token(12, 0, 3, 3).way(3, 0);
     told.frame("a message in flight leaves the list", &s, f);
-    told.frame("another number, a message in flight stays", &s, token(13, 0, 3, 3).way(3, 0));
+    told.frame("by another station, too", &s, token(13, 0, 3, 3).way(0, 2));
+    told.frame("an earlier number, a message in flight stays", &s, token(10, 0, 3, 3).way(3, 0));
+    let lost = s.heard(transmit(10, 5, 0, 1)).rung();
+    let late = token(12, 0, 0, 0).failing(2).way(0, 3);
+    told.frame("after losses, a message that has not arrived leaves as well", &lost, late);
     let two = idle(1).with(3, 7).with(3, 7).granted();
     told.frame("of two alike the one in flight leaves", &two, f);
     told.frame("acknowledged first, then handled", &two, f.way(3, 1));
@@ -555,8 +564,9 @@ fn failing_stations(told: &mut Told) {
     let own = here.failing(1);
     told.frame("this station, Excluded, waiting messages stay", &s, own);
     let flying = s.granted();
-    told.frame("at Excluded a message in flight is given up", &flying, own);
-    told.frame("another, a message in flight to it stays", &flying, f);
+    let early = |f: Frame| Frame { number: 9, ..f };
+    told.frame("at Excluded a message in flight is given up", &flying, early(own));
+    told.frame("another, a message in flight to it stays", &flying, early(f));
     told.frame("acknowledged first, nothing in flight to give up", &flying, own.way(3, 0));
     let pair = made(2, 1, 1).start().after.with(0, 5).with(0, 7);
     let last = here.failing(0);
@@ -564,7 +574,7 @@ fn failing_stations(told: &mut Told) {
     told.frame(
         "at Alone a message in flight is given up, after the waiting ones",
         &pair.with(0, 6).granted(),
-        Frame { number: 15, ..last },
+        early(last),
     );
 }
 
@@ -573,7 +583,7 @@ fn nothing_more(told: &mut Told) {
     let f = token(12, 5, 0, 0);
     told.frame("addressed elsewhere", &idle(1), f.way(0, 2));
     let s = idle(1).passed(0);
-    told.frame("still Waiting", &s, f);
+    told.frame("still Waiting", &s, token(9, 5, 0, 0));
     let done = s.heard(f.way(2, 3));
     told.frame("number equal to the last handled one", &done, token(10, 5, 0, 0));
     told.frame(

@@ -283,7 +283,7 @@ fn random_days_hold_to_the_request_and_to_the_yardstick() {
 fn the_longest_days() {
     let mut random = Random::new(SEED);
     for lossy in [false, true] {
-        let mut made = longest(&mut random, lossy);
+        let mut made = longest(&mut random, lossy, 1);
         assert_eq!(made.capture.len(), 60_000);
         let text = printed(&made.ring, &made.capture);
         assert!(text.as_bytes() == yardstick(&made) && !text.contains("stopped"));

@@ -528,20 +528,19 @@ impl Comparison {
                 let to = before.position(*to).unwrap();
                 let number = u16::from_be_bytes([packet[2], packet[3]]);
                 let waiting = before.state() == WAITING;
-                let next = number == before.awaited_number().wrapping_add(1);
-                let acknowledged = waiting && from == before.awaited_to() && next;
+                let ahead = number.wrapping_sub(before.awaited_number());
+                let acknowledged = waiting && (1..=32_767).contains(&ahead);
+                let addressee = waiting && from == before.awaited_to();
                 saw("acknowledged", acknowledged);
                 saw("acknowledged by a frame to another", acknowledged && to != own);
+                saw("acknowledged by another than its addressee", acknowledged && !addressee);
+                saw("acknowledged by a later number", acknowledged && ahead > 1);
                 saw("acknowledged: the message in flight leaves", acknowledged && flies);
-                saw("65,535 acknowledged by 0", acknowledged && number == 0);
-                saw(
-                    "the number after from another",
-                    waiting && next && from != before.awaited_to(),
-                );
-                saw(
-                    "another number from the addressee",
-                    waiting && !next && from == before.awaited_to(),
-                );
+                saw("65,535 acknowledged by 0", acknowledged && ahead == 1 && number == 0);
+                saw("acknowledged 32,767 ahead", waiting && ahead == 32_767);
+                saw("not acknowledged 32,768 ahead", waiting && ahead == 32_768);
+                saw("not acknowledged by its own number", waiting && ahead == 0);
+                saw("an earlier number from the addressee", addressee && ahead > 32_768);
                 let address = |at: usize| {
                     packet[at..at + 6].iter().fold(0, |n, octet| n << 8 | u64::from(*octet))
                 };
@@ -701,7 +700,7 @@ const EVERY: [Event; 6] =
     [Event::Make, Event::Start, Event::Frame, Event::Timer, Event::Queue, Event::Take];
 
 /// What a ring from its start can come to.
-const IN_HISTORIES: [&str; 41] = [
+const IN_HISTORIES: [&str; 43] = [
     "messages given up",
     "several messages given up",
     "the given-up count stopped",
@@ -722,7 +721,9 @@ const IN_HISTORIES: [&str; 41] = [
     "acknowledged by a frame to another",
     "acknowledged: the message in flight leaves",
     "65,535 acknowledged by 0",
-    "another number from the addressee",
+    "acknowledged by another than its addressee",
+    "acknowledged by a later number",
+    "an earlier number from the addressee",
     "failing station struck",
     "failing station struck earlier",
     "struck while awaited",
@@ -746,14 +747,16 @@ const IN_HISTORIES: [&str; 41] = [
 ];
 
 /// What a whole record, made up, can come to besides.
-const ON_MADE_UP: [&str; 26] = [
+const ON_MADE_UP: [&str; 28] = [
     "timer: an addressee struck earlier",
     "timer: passed on with its own name",
     "timer: alone, in flight given up",
     "timer: waiting ones, then the one in flight",
     "timer: passed on with a name struck earlier",
     "timer: number 0 after 65,535",
-    "the number after from another",
+    "acknowledged 32,767 ahead",
+    "not acknowledged 32,768 ahead",
+    "not acknowledged by its own number",
     "failing station is the sender",
     "Excluded: in flight given up",
     "Excluded: waiting messages stay",
@@ -948,7 +951,7 @@ fn made_up_frame(random: &mut Random, ring: &RingFile, view: View) -> Call {
         0 => random.next() as u16,
         1 => view.handled().unwrap_or(0),
         2 => view.awaited_number(),
-        3 => view.awaited_number().wrapping_add(2),
+        3 => view.awaited_number().wrapping_add(random.pick(&[2, 32_767, 32_768, 65_535])),
         4 => random.pick(&[0, 65_534, 65_535]),
         _ => view.awaited_number().wrapping_add(1),
     };
@@ -1317,7 +1320,7 @@ fn history(comparison: &mut Comparison, random: &mut Random, members: usize, eve
         } else if choice < queues + 2 {
             let call = if random.once_in(2) { Call::Start } else { Call::Timer };
             ring_now.call(comparison, random, which, &call, *lens);
-        } else if choice < queues + 4 {
+        } else if choice < queues + 8 {
             let frame = ring_now.wire[random.below(newest + 1)].clone();
             ring_now.deliver(comparison, random, &frame, 50, None);
         } else if !handed_over {

@@ -15,9 +15,10 @@ use Rattle.parts.specs.declared.frame.Whom.the-variants.{Nobody}
 use Rattle.parts.specs.declared.frame.Frame.{Frame}
 use Rattle.parts.specs.declared.frame.Dispatch.the-variants.{Sent}
 use Rattle.station.specs.declared.station.Station.{Station}
+use Rattle.parts.proofs.Laws.Ahead.{next-ahead}
 use Rattle.bench_theorems.specs.Quiet.{Stands, sender, last-sender, at-rest, Phase, token, transmit, information, Picture}
 use Rattle.bench_theorems.proofs.Laws.Numbers.{not-last}
-use Rattle.bench_theorems.proofs.Laws.Listening.{Listens, idle, waits}
+use Rattle.bench_theorems.proofs.Laws.Listening.{Listens, idle, waits, ahead-acknowledges}
 use Rattle.bench_theorems.proofs.Laws.Hearing.{Hears}
 use Rattle.bench_theorems.proofs.Laws.Longest.{longest-below}
 use Rattle.bench_theorems.proofs.Laws.Answering.{view, Silent, Answering, stays-silent, gives-answer}
@@ -48,7 +49,8 @@ nobody-failing (information i) = refl
 -- everybody but the sender is Idle or acknowledged
 pub stands-listens : {from before : ℕ} {f : Frame} {to p : ℕ} {s : Station} → (p ≡ from → ⊥) → Stands from before f to p s → Listens from (numberOf f) s
 stands-listens o (sender e w a) = absurd (o e)
-stands-listens o (last-sender x e w g a k) = waits w g a k
+stands-listens {from} {f = f} {s = s} o (last-sender x e w g a k) =
+    waits w (ahead-acknowledges s from (numberOf f) g from w a ∙ next-ahead (numberOf g) (numberOf f) k)
 stands-listens o (at-rest x y i) = idle i
 
 -- the sender waits for the frame

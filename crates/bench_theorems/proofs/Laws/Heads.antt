@@ -108,7 +108,7 @@ head-landed s = go (flight (awaitedOf s) .on) refl
 
 pub head-acknowledged : {from k : ℕ} {s : Station} → Listens from k s → head (acknowledge s from k) ≡ head s
 head-acknowledged {from} {k} {s} (idle i) = ap head (idle-stays s from k i)
-head-acknowledged {from} {k} {s} (waits w g a e) = ap head (acknowledged-by s from k w g a e) ∙ head-landed s
+head-acknowledged {from} {k} {s} (waits w e) = ap head (acknowledged-by s from k e) ∙ head-landed s
 
 -- ---- where nothing is in flight
 
@@ -117,7 +117,7 @@ pub rested-flight : {from k : ℕ} {s : Station} → Listens from k s → WholeS
 rested-flight {from} {k} {s} (idle i) w =
     ap (λ (t : Station). flight (awaitedOf t)) (idle-stays s from k i)
     ∙ idle-flight (stateOf s) (s .n) (s .own) (s .sends) (awaitedOf s) (ap isWaiting i) (whole-sound s w .awaited)
-rested-flight {from} {k} {s} (waits w g a e) v = ap (λ (t : Station). flight (awaitedOf t)) (acknowledged-by s from k w g a e)
+rested-flight {from} {k} {s} (waits w e) v = ap (λ (t : Station). flight (awaitedOf t)) (acknowledged-by s from k e)
 
 pub head-same : (s t : Station) → t .sends ≡ s .sends → flight (awaitedOf t) ≡ flight (awaitedOf s) → head t ≡ head s
 unfolding head

@@ -103,7 +103,7 @@ module _ {n limit p : ℕ} {s : Station} {f : Frame} {from to : ℕ} (h : Hears 
       (checks-pass n (s .own) (liveAt (s .live) from) from to (h .sender) (h .addressee) (h .apart)
       (ap (λ l. liveAt l from) (h .member .live) ∙ full-live n from (h .most-members) (h .sender)) (λ q. h .another (q ∙ h .member .own)))
 
-  heard-is : frameRule s f from to ≡ respond (unharmed t) from to f
+  pub heard-is : frameRule s f from to ≡ respond (unharmed t) from to f
   heard-is =
       frame-runs s f from to (listens-runs (h .listens)) passes
       ∙ sym (hears s f from to (numberOf f) t (failingOf f) (unharmed t) refl refl refl (sym (failed-nobody t (failingOf f) (ap isNobody (h .nobody)))))

@@ -1,16 +1,14 @@
--- Laws of a station that a frame finds Idle, or waiting for just this frame: it is Idle once the frame has acknowledged it.
+-- Laws of a station that a frame finds Idle, or waiting and acknowledges: it is Idle once the frame has acknowledged it.
 -- Assumes nothing.
 use mathlib.Core.Path.{_≡_, refl, sym, ap, subst, _∙_}
 use mathlib.Core.Bool.{Bool, true, false}
 use Prim.Native.Nat.{ℕ}
-use borrow.Author.Tests.{eq-eqb}
 use Rattle.parts.specs.Choose.{pick}
 use Rattle.parts.specs.Moves.{moveOf, runs, isWaiting}
-use Rattle.parts.specs.Frames.{numberOf, next, flight}
+use Rattle.parts.specs.Frames.{numberOf, flight, isAhead, acknowledges}
 use Rattle.station.specs.Stations.{stateOf, awaitedOf, quiet}
 use Rattle.station.specs.Strike.{leave}
 use Rattle.station.specs.Heard.{acknowledged, landed, acknowledge}
-use Rattle.parts.specs.Frames.{acknowledges}
 use Rattle.parts.specs.declared.moves.State.{State}
 use Rattle.parts.specs.declared.moves.State.the-variants.{Idle, Waiting}
 use Rattle.parts.specs.declared.moves.Event.the-variants.{Heard}
@@ -24,7 +22,7 @@ use Rattle.bench.proofs.Laws.StandsBy.{unacknowledged}
 -- Idle, or acknowledged by a frame from `from` with the number k
 pub data Listens (from k : ℕ) (s : Station) : Type 0 where
   idle : stateOf s ≡ Idle → Listens from k s
-  waits : stateOf s ≡ Waiting → (g : Frame) → awaitedOf s ≡ Sent g from → next (numberOf g) ≡ k → Listens from k s
+  waits : stateOf s ≡ Waiting → acknowledged s from k ≡ true → Listens from k s
 
 -- the same place, live set and last handled number
 pub record SameSeat (s t : Station) : Type 0 where
@@ -40,18 +38,17 @@ pub record Rested (s t : Station) : Type 0 where
 
 pub listens-runs : {from k : ℕ} {s : Station} → Listens from k s → moveOf (stateOf s) Heard ≡ runs
 listens-runs (idle i) = ap (λ (st : State). moveOf st Heard) i
-listens-runs (waits w g a e) = ap (λ (st : State). moveOf st Heard) w
+listens-runs (waits w e) = ap (λ (st : State). moveOf st Heard) w
 
--- a frame from the addressee of the awaited one, with the number after its own
-pub acknowledged-by : (s : Station) (from k : ℕ) → stateOf s ≡ Waiting → (g : Frame) → awaitedOf s ≡ Sent g from → next (numberOf g) ≡ k
-    → acknowledge s from k ≡ quiet (landed s) Idle
-unfolding acknowledge acknowledged acknowledges
-acknowledged-by s from k w g a e =
-    pick-true _ _
-    (pick-true _ _ (ap isWaiting w)
-    ∙ ap (λ (d : Dispatch). acknowledges d from k) a
-    ∙ pick-true _ _ (eq-eqb from from refl)
-    ∙ eq-eqb k (next (numberOf g)) (sym e))
+-- a station that waits is acknowledged by a number that lies ahead of its frame's
+pub ahead-acknowledges : (s : Station) (from k : ℕ) (g : Frame) (to : ℕ) → stateOf s ≡ Waiting → awaitedOf s ≡ Sent g to
+    → acknowledged s from k ≡ isAhead (numberOf g) k
+unfolding acknowledged acknowledges
+ahead-acknowledges s from k g to w a = pick-true _ _ (ap isWaiting w) ∙ ap (λ (d : Dispatch). acknowledges d from k) a
+
+pub acknowledged-by : (s : Station) (from k : ℕ) → acknowledged s from k ≡ true → acknowledge s from k ≡ quiet (landed s) Idle
+unfolding acknowledge
+acknowledged-by s from k e = pick-true _ _ e
 
 landed-seat : (s : Station) → SameSeat s (quiet (landed s) Idle)
 unfolding landed pick
@@ -71,4 +68,4 @@ rested {from} {k} {s} (idle i) =
       seat = record { same-n = refl; same-limit = refl; same-own = refl; same-live = refl; same-handled = refl };
       at-rest = i;
     })
-rested {from} {k} {s} (waits w g a e) = subst (Rested s) (sym (acknowledged-by s from k w g a e)) (record { seat = landed-seat s; at-rest = refl })
+rested {from} {k} {s} (waits w e) = subst (Rested s) (sym (acknowledged-by s from k e)) (record { seat = landed-seat s; at-rest = refl })

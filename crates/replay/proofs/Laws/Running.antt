@@ -269,6 +269,32 @@ offset-more (suc k) n s at e next q = go (readRecord n s at) refl q (λ (x : ℕ
     go (Refused j) h q more = absurd (not-good-refused j e next (sym h ∙ q))
     go (Good f x) h q more = more x q
 
+-- ---- none, and one more
+
+pub gone-one : (c : Course) (r : Record) (rs : List Record) → gone c (r ∷ rs) ≡ gone (turn c r) rs
+unfolding gone
+gone-one c r rs = refl
+
+pub text-one : (c : Course) (r : Record) (rs : List Record) → goneText c (r ∷ rs) ≡ turnText c r ++ goneText (turn c r) rs
+unfolding goneText
+text-one c r rs = refl
+
+pub gone-none : (c : Course) → (gone c [] ≡ c) × (goneText c [] ≡ [])
+unfolding gone goneText
+gone-none c = (refl, refl)
+
+pub records-zero : (n : ℕ) (s : List ℕ) (at : ℕ) → recordsFrom 0 n s at ≡ []
+unfolding recordsFrom
+records-zero n s at = refl
+
+pub offset-zero : (k n : ℕ) (s : List ℕ) (at : ℕ) → k ≡ 0 → offsetBehind k n s at ≡ at
+unfolding offsetBehind
+offset-zero k n s at e = rw e refl
+
+pub offset-next : (k n : ℕ) (s : List ℕ) (at : ℕ) (e : Event) (next : ℕ) → readRecord n s at ≡ Good e next → offsetBehind (suc k) n s at ≡ offsetBehind k n s next
+unfolding offsetBehind nextOffset
+offset-next k n s at e next q = ap (λ (r : Read). nextOffset at r (λ (x : ℕ). offsetBehind k n s x)) q
+
 -- ---- what holds before each turn
 
 -- the way w has come from w₀, over the table ss, and what was printed stands in out

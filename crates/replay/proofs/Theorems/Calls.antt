@@ -20,7 +20,7 @@ use Rattle.replay.specs.Running.{nextOffset, offsetBehind}
 use Rattle.replay.specs.Runs.{Record, good, bad, recordsFrom, Course, stopped, wentOn, recordNumber, effect, turn, turnText, gone, goneText}
 use Rattle.replay.specs.declared.run.Replay.{Replay}
 use Rattle.replay.specs.declared.run.Ran.{Ran}
-use Rattle.replay.proofs.Laws.Running.{records-end, records-refused, records-good, gone-stays, gone-silent}
+use Rattle.replay.proofs.Laws.Running.{records-end, records-refused, records-good, gone-stays, gone-silent, gone-one, text-one, gone-none, records-zero, offset-zero, offset-next}
 
 -- ---- one record
 
@@ -62,30 +62,6 @@ unfolding turn recordNumber
 turn-stops c k going o =
     ap (λ (x : Course). x .number)
     (pick-true (pick (eqb k 0) (effect c (bad k)) (stopped c k)) c (eq-eqb (c .number) 0 going) ∙ pick-false (effect c (bad k)) (stopped c k) (ne-eqb k 0 o))
-
-gone-one : (c : Course) (r : Record) (rs : List Record) → gone c (r ∷ rs) ≡ gone (turn c r) rs
-unfolding gone
-gone-one c r rs = refl
-
-text-one : (c : Course) (r : Record) (rs : List Record) → goneText c (r ∷ rs) ≡ turnText c r ++ goneText (turn c r) rs
-unfolding goneText
-text-one c r rs = refl
-
-gone-none : (c : Course) → (gone c [] ≡ c) × (goneText c [] ≡ [])
-unfolding gone goneText
-gone-none c = (refl, refl)
-
-records-zero : (n : ℕ) (s : List ℕ) (at : ℕ) → recordsFrom 0 n s at ≡ []
-unfolding recordsFrom
-records-zero n s at = refl
-
-offset-zero : (k n : ℕ) (s : List ℕ) (at : ℕ) → k ≡ 0 → offsetBehind k n s at ≡ at
-unfolding offsetBehind
-offset-zero k n s at e = rw e refl
-
-offset-next : (k n : ℕ) (s : List ℕ) (at : ℕ) (e : Event) (next : ℕ) → readRecord n s at ≡ Good e next → offsetBehind (suc k) n s at ≡ offsetBehind k n s next
-unfolding offsetBehind nextOffset
-offset-next k n s at e next q = ap (λ (r : Read). nextOffset at r (λ (x : ℕ). offsetBehind k n s x)) q
 
 -- ---- some records, and then more
 
@@ -172,7 +148,7 @@ module _ (n : ℕ) (s : List ℕ) (j : ℕ) where
   joined-read k c at going more (Refused x) q = joined-refused k c at x going (refused-is n s at x q .2) q
   joined-read k c at going more (Good e next) q = joined-good k c at e next going q (more (turn c (good e)) next)
 
-  pub joined : (k : ℕ) (c : Course) (at : ℕ) → Joined c k at
+  joined : (k : ℕ) (c : Course) (at : ℕ) → Joined c k at
   joined zero c at =
       let rs : List Record = recordsFrom 0 n s at in
       let none : rs ≡ [] = records-zero n s at in

@@ -50,6 +50,12 @@ turns c r = go (eqb (c .number) 0) refl (eqb (recordNumber (c .day) r) 0) refl
           shows = pick-true _ _ x ∙ pick-true _ _ y;
         })
 
+-- ---- a run, record by record
+
+pub bad-number : (d : Day) (k : ℕ) → recordNumber d (bad k) ≡ k
+unfolding recordNumber
+bad-number d k = refl
+
 -- ---- what every record that is not refused keeps, every run keeps
 
 number-good : (d : Day) (e : Event) → recordNumber d (good e) ≡ eventNumber d e

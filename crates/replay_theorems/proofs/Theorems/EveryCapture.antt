@@ -19,7 +19,7 @@ use Rattle.replay_theorems.specs.Lines.{linesText, runLines}
 use Rattle.replay_theorems.specs.EveryCapture.{dayOf, Printed}
 use Rattle.replay_theorems.proofs.Theorems.LinesPrinted.{lines-printed}
 
--- the ring file passes
+-- the ring file passes, and the capture
 ring-passes : (file s : List ℕ) → refusal file s ≡ 0 → ringRefusal file ≡ 0
 unfolding refusal
 ring-passes file s z = go (eqb (ringRefusal file) 0) refl
@@ -28,7 +28,11 @@ ring-passes file s z = go (eqb (ringRefusal file) 0) refl
     go true e = eqb-true _ _ e
     go false e = absurd (eqb-false _ _ e (sym (pick-false (captureNumber s) (ringRefusal file) e) ∙ z))
 
-output-is : (file s : List ℕ) → refusal file s ≡ 0 → output file s ≡ dayText (dayOf file) (recordsOf (count file) s)
+pub capture-passed : (file s : List ℕ) → refusal file s ≡ 0 → captureNumber s ≡ 0
+unfolding refusal
+capture-passed file s z = sym (pick-true (captureNumber s) (ringRefusal file) (eq-eqb _ _ (ring-passes file s z))) ∙ z
+
+pub output-is : (file s : List ℕ) → refusal file s ≡ 0 → output file s ≡ dayText (dayOf file) (recordsOf (count file) s)
 unfolding output
 output-is file s z = pick-true _ _ (eq-eqb _ _ z)
 

@@ -8,28 +8,13 @@ use lib.ListN.{length}
 use Rattle.replay.specs.Day.{Day}
 use Rattle.replay.specs.Printed.{startText, stoppedText, endText}
 use Rattle.replay.specs.Runs.{Record, good, bad, Course, stopped, recordNumber, turn, turnText, gone, goneText, begun, dayText, recordsOf}
+use Rattle.replay.proofs.Laws.Running.{gone-one, text-one, gone-none}
 use Rattle.replay_theorems.specs.Read.{IsRead, AllRead}
 use Rattle.replay_theorems.specs.Stops.{Stops}
-use Rattle.replay_theorems.proofs.Laws.Turning.{Turned, Turns, over, stops, goes, turns}
+use Rattle.replay_theorems.proofs.Laws.Turning.{Turned, Turns, over, stops, goes, turns, bad-number}
 use Rattle.replay_theorems.proofs.Laws.Reading.{all-read}
 
 -- ---- a stopped run stays as it is
-
-gone-none : (c : Course) → gone c [] ≡ c
-unfolding gone
-gone-none c = refl
-
-gone-one : (c : Course) (r : Record) (rs : List Record) → gone c (r ∷ rs) ≡ gone (turn c r) rs
-unfolding gone
-gone-one c r rs = refl
-
-text-none : (c : Course) → goneText c [] ≡ []
-unfolding goneText
-text-none c = refl
-
-text-one : (c : Course) (r : Record) (rs : List Record) → goneText c (r ∷ rs) ≡ turnText c r ++ goneText (turn c r) rs
-unfolding goneText
-text-one c r rs = refl
 
 record Stays (c : Course) (rs : List Record) : Type 0 where
   same : gone c rs ≡ c
@@ -45,7 +30,7 @@ module _ (c : Course) (o : c .number ≡ 0 → ⊥) where
       go (goes z x t) = absurd (o z)
 
   stays : (rs : List Record) → Stays c rs
-  stays [] = record { same = gone-none c; silent = text-none c }
+  stays [] = record { same = gone-none c .0; silent = gone-none c .1 }
   stays (r ∷ rs) =
       let t = stays-turned r in
       let s = stays rs in
@@ -76,7 +61,7 @@ splits-here : (c : Course) (r : Record) (rs : List Record) → c .number ≡ 0 �
 splits-here c r rs z o e t =
     let s = stays (stopped c (recordNumber (c .day) r)) o rs in
     let at : Course → Course = λ (x : Course). stopped x (recordNumber (x .day) r) in
-    let none = gone-none c in
+    let none = gone-none c .0 in
     record {
       before = [];
       refused = r;
@@ -91,7 +76,7 @@ splits-here c r rs z o e t =
           ∙ ap (λ (u : List ℕ). stoppedText (recordNumber (c .day) r) (c .done) ++ u) (ap (λ (x : Course). goneText x rs) e ∙ s .silent)
           ∙ append-nil _
           ∙ ap (λ (x : Course). stoppedText (recordNumber (x .day) r) (x .done)) (sym none)
-          ∙ ap (λ (u : List ℕ). u ++ stoppedText (recordNumber (gone c [] .day) r) (gone c [] .done)) (sym (text-none c));
+          ∙ ap (λ (u : List ℕ). u ++ stoppedText (recordNumber (gone c [] .day) r) (gone c [] .done)) (sym (gone-none c .1));
     }
 
 -- later
@@ -115,10 +100,6 @@ splits-later c r rs e s =
           ∙ ap (λ (u : List ℕ). u ++ stoppedText (recordNumber (gone c (r ∷ b) .day) (s .refused)) (gone c (r ∷ b) .done)) (sym (text-one c r b));
     }
 
-bad-number : (d : Day) (k : ℕ) → recordNumber d (bad k) ≡ k
-unfolding recordNumber
-bad-number d k = refl
-
 -- a turn of a run that is not stopped: refused, or one more is done
 data Next (c : Course) (r : Record) : Type 0 where
   refuses : (recordNumber (c .day) r ≡ 0 → ⊥) → turn c r ≡ stopped c (recordNumber (c .day) r) → turnText c r ≡ stoppedText (recordNumber (c .day) r) (c .done) → Next c r
@@ -139,7 +120,7 @@ next n c (bad k) z h = go (turns c (bad k))
     go (goes x w t) = absurd (omega (arith, bad-number (c .day) k, h))
 
 splits-in : (n : ℕ) (rs : List Record) (c : Course) → AllRead n rs → c .number ≡ 0 → (gone c rs .number ≡ 0 → ⊥) → Splits c rs
-splits-in n [] c h z o = absurd (o (ap (λ (x : Course). x .number) (gone-none c) ∙ z))
+splits-in n [] c h z o = absurd (o (ap (λ (x : Course). x .number) (gone-none c .0) ∙ z))
 splits-in n (r ∷ rs) c h z o = go (next n c r z (h .0)) (λ y. splits-in n rs (turn c r) (h .1) y (λ x. o (ap (λ (k : Course). k .number) (gone-one c r rs) ∙ x)))
   where
     go : Next c r → (turn c r .number ≡ 0 → Splits (turn c r) rs) → Splits c (r ∷ rs)

@@ -59,7 +59,7 @@ strikes-nobody-new s f to w h dead =
 -- ---- an addressee struck on hearing: the station still awaits the frame to it
 
 -- a Waiting station does nothing more on a heard frame
-waiting-stops : (s : Station) (to k : ℕ) → stateOf s ≡ Waiting → nothingMore s to k ≡ true
+pub waiting-stops : (s : Station) (to k : ℕ) → stateOf s ≡ Waiting → nothingMore s to k ≡ true
 unfolding nothingMore
 waiting-stops s to k e =
     rw e (go (not (eqb to (s .own))) (isLast (s .turn .handled) k))

@@ -145,4 +145,4 @@ landed-waits s = go (flight (awaitedOf s) .on) refl
 
 pub acknowledged-waits : {from k : ℕ} {s : Station} → Listens from k s → waiting (acknowledge s from k) ≡ waiting s
 acknowledged-waits {from} {k} {s} (idle i) = ap waiting (idle-stays s from k i)
-acknowledged-waits {from} {k} {s} (waits w g a e) = ap waiting (acknowledged-by s from k w g a e) ∙ landed-waits s
+acknowledged-waits {from} {k} {s} (waits w e) = ap waiting (acknowledged-by s from k e) ∙ landed-waits s

@@ -241,7 +241,8 @@ impl Station {
         let mut answer = Answer::default();
         // 2
         if let Some(own) = self.awaited {
-            if heard.from == own.to && heard.number == own.number.wrapping_add(1) {
+            let ahead = heard.number.wrapping_sub(own.number);
+            if (1..=32_767).contains(&ahead) {
                 self.leave_flight();
                 self.awaited = None;
                 self.state = State::Idle;

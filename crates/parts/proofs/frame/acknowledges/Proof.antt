@@ -1,6 +1,4 @@
--- `heard::acknowledges` meets its contract: the awaited frame's constructor and the tests decide.
-use borrow.Author.Tests.{eq-eqb, ne-eqb}
-use Rattle.parts.specs.Choose.{pick}
+-- `frame::acknowledges` meets its contract: the awaited frame's constructor decides.
 use Rattle.parts.specs.Frames.{acknowledges}
 use borrow.Author.Needs.{needs}
 use Rattle.parts.proofs.frame.acknowledges.Statement.{statement}
@@ -15,20 +13,16 @@ enum-known-awaited c = search needs
 number-of-requires : tie.Need-number-of-requires
 number-of-requires c κs = search needs
 
-next-requires : tie.Need-next-requires
-next-requires c κs = search needs
+is-ahead-requires : tie.Need-is-ahead-requires
+is-ahead-requires c κs = search needs
 
 returns : tie.Need-returns
 unfolding acknowledges
 returns c = rw (c .enum-told .given .1)
 
 returns-2 : tie.Need-returns-2
-unfolding acknowledges pick
-returns-2 c = simp (c .before .before .before .before .awaited .given .1, eq-eqb _ _ (c .before .before .if1 .taken), c .next .ensures, c .before .number-of .ensures)
-
-returns-3 : tie.Need-returns-3
-unfolding acknowledges pick
-returns-3 c = simp (c .before .before .awaited .given .1, ne-eqb _ _ (c .if1 .left))
+unfolding acknowledges
+returns-2 c = simp (c .before .before .before .awaited .given .1, c .is-ahead .ensures, c .before .number-of .ensures)
 
 pub acknowledges-spec : {M : Type 1} → statement M
 acknowledges-spec =
@@ -37,7 +31,6 @@ acknowledges-spec =
     enum-told
     enum-known-awaited
     number-of-requires
-    next-requires
+    is-ahead-requires
     returns
-    returns-2
-    returns-3)
+    returns-2)

@@ -128,7 +128,8 @@ impl Station {
     pub fn frame(&mut self, from: u8, to: u8, heard: &Heard) -> Answer {
         let mut answer = Answer::nothing();
         if let Some(frame) = self.awaited {
-            if from == frame.to && heard.number() == frame.number.wrapping_add(1) {
+            let ahead = heard.number().wrapping_sub(frame.number);
+            if ahead != 0 && ahead < 32_768 {
                 self.state = State::Idle;
                 self.land();
             }

@@ -1,0 +1,4 @@
+pub mod Before
+pub mod Missing
+pub mod SameFrames
+pub mod Heals

@@ -1,0 +1,1 @@
+// What the rule of acknowledgement gives: theorems, no code.
