@@ -13,9 +13,10 @@ use Rattle.parts.specs.Choose.{pick}
 use Rattle.parts.specs.declared.list.Message.{Message}
 use Rattle.parts.specs.declared.list.Messages.{Messages}
 use Rattle.parts.specs.declared.list.Best.{Best}
+use Rattle.parts.specs.declared.list.Top.{Top}
 use Rattle.parts.specs.declared.list.Parts.{Parts}
 use Rattle.parts.specs.declared.list.Which.{Which}
-use Rattle.parts.specs.Messages.{all, used, blank, pack, pushed, fits, only, splitBy, chosenBy, theBest, betterOf, bestOf, hasPlace, freeFrom}
+use Rattle.parts.specs.Messages.{all, used, blank, pack, pushed, fits, only, splitBy, chosenBy, noBest, theBest, betterOf, bestOf, standing, topAt, higherOf, hasPlace, freeFrom}
 use Rattle.parts.proofs.Laws.Choose.{pick-true, pick-false}
 
 -- what owning an array of structs tells of its list
@@ -209,6 +210,74 @@ module _ (w : Which) (b : Best) (m : Message) where
     pub better-kept : b .some ≡ true → m .priority ≤ b .message .priority → betterOf w b m ≡ b
     unfolding betterOf
     better-kept f h = pick-true _ b e ∙ pick-true _ (theBest m) f ∙ pick-false (theBest m) b (le-ltb (b .message .priority) (m .priority) h)
+
+-- ---- the same by position
+
+module _ (w : Which) (t : Top) (m : Message) (i : ℕ) where
+  pub higher-unfit : fits w m ≡ false → higherOf w t m i ≡ t
+  unfolding higherOf
+  higher-unfit e = pick-false _ t e
+
+  module _ (e : fits w m ≡ true) where
+    pub higher-first : 16 ≤ t .at → higherOf w t m i ≡ topAt m i
+    unfolding higherOf
+    higher-first f = pick-true _ t e ∙ pick-false _ (topAt m i) (le-ltb (t .at) 16 f)
+
+    pub higher-above : t .at < 16 → t .priority < m .priority → higherOf w t m i ≡ topAt m i
+    unfolding higherOf
+    higher-above f h = pick-true _ t e ∙ pick-true _ (topAt m i) (lt-ltb (t .at) 16 f) ∙ pick-true (topAt m i) t (lt-ltb (t .priority) (m .priority) h)
+
+    pub higher-kept : t .at < 16 → m .priority ≤ t .priority → higherOf w t m i ≡ t
+    unfolding higherOf
+    higher-kept f h = pick-true _ t e ∙ pick-true _ (topAt m i) (lt-ltb (t .at) 16 f) ∙ pick-false (topAt m i) t (le-ltb (t .priority) (m .priority) h)
+
+pub standing-on : (l : Messages) (i : ℕ) → i < 16 → standing l i ≡ theBest (getD (l .items) i blank)
+standing-on l i h = pick-true (theBest (getD (l .items) i blank)) noBest (lt-ltb i 16 h)
+
+pub standing-off : (l : Messages) (i : ℕ) → 16 ≤ i → standing l i ≡ noBest
+standing-off l i h = pick-false (theBest (getD (l .items) i blank)) noBest (le-ltb i 16 h)
+
+-- a turn: the message at the position is the best so far, before and after
+module _ (w : Which) (l : Messages) (t r : Top) (i : ℕ) (inside : i < 16) (p : t .priority ≡ standing l (t .at) .message .priority) where
+  abbrev m : Message
+  m = getD (l .items) i blank
+
+  abbrev b : Best
+  b = standing l (t .at)
+
+  abbrev Turned : Type 0
+  Turned = (standing l (r .at) ≡ betterOf w b m) × (r .priority ≡ standing l (r .at) .message .priority)
+
+  same-top : r ≡ t → betterOf w b m ≡ b → Turned
+  same-top e k = (
+    ap (λ (x : Top). standing l (x .at)) e ∙ sym k,
+    ap (λ (x : Top). x .priority) e ∙ p ∙ ap (λ (x : Top). standing l (x .at) .message .priority) (sym e),
+  )
+
+  new-top : r ≡ topAt m i → betterOf w b m ≡ theBest m → Turned
+  new-top e k = (
+    ap (λ (x : Top). standing l (x .at)) e ∙ standing-on l i inside ∙ sym k,
+    ap (λ (x : Top). x .priority) e ∙ ap (λ (x : Best). x .message .priority) (sym (standing-on l i inside)) ∙ ap (λ (x : Top). standing l (x .at) .message .priority) (sym e),
+  )
+
+  pub standing-turn : r ≡ higherOf w t m i → Turned
+  standing-turn e = go (fits w m) refl (ltb (t .at) 16) refl (ltb (t .priority) (m .priority)) refl
+    where
+      go : (f : Bool) → fits w m ≡ f → (s : Bool) → ltb (t .at) 16 ≡ s → (h : Bool) → ltb (t .priority) (m .priority) ≡ h → Turned
+      go false f s s-is h h-is = same-top (e ∙ higher-unfit w t m i f) (better-unfit w b m f)
+      go true f false s-is h h-is =
+          let off : 16 ≤ t .at = ltb-false (t .at) 16 s-is in
+          new-top (e ∙ higher-first w t m i f off) (better-first w b m f (ap (λ (x : Best). x .some) (standing-off l (t .at) off)))
+      go true f true s-is true h-is =
+          let on : t .at < 16 = ltb-true (t .at) 16 s-is in
+          let above : t .priority < m .priority = ltb-true (t .priority) (m .priority) h-is in
+          let above-best : b .message .priority < m .priority = omega (arith, p) in
+          new-top (e ∙ higher-above w t m i f on above) (better-higher w b m f (ap (λ (x : Best). x .some) (standing-on l (t .at) on)) above-best)
+      go true f true s-is false h-is =
+          let on : t .at < 16 = ltb-true (t .at) 16 s-is in
+          let below : m .priority ≤ t .priority = ltb-false (t .priority) (m .priority) h-is in
+          let below-best : m .priority ≤ b .message .priority = omega (arith, p) in
+          same-top (e ∙ higher-kept w t m i f on below) (better-kept w b m f (ap (λ (x : Best). x .some) (standing-on l (t .at) on)) below-best)
 
 -- ---- one part of a list
 
