@@ -1,4 +1,5 @@
 -- Messages and their lists.
+use mathlib.Core.Path.{_≡_}
 use mathlib.Core.Bool.{Bool, true, false, not, _&&_}
 use mathlib.Core.List.{List, [], _∷_, _++_}
 use Prim.Native.Nat.{ℕ, zero, suc, _+_, _-_, _≤_}
@@ -132,6 +133,10 @@ higherOf w t m i =
 unfoldable pub hasPlace : List Message → ℕ → Bool
 hasPlace [] p = false
 hasPlace (m ∷ ms) p = pick (eqb (m .place) p) true (hasPlace ms p)
+
+-- flags, one for each place: those of the places that the messages have
+unfoldable pub Marked : List Bool → List Message → Type 0
+Marked flags ms = (p : ℕ) → getD flags p false ≡ hasPlace ms p
 
 -- the first of the k numbers from p on that is no message's place; p + k where each is one
 unfoldable pub freeFrom : ℕ → ℕ → List Message → ℕ

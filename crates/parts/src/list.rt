@@ -1,6 +1,6 @@
 // Messages, and lists of at most 16 of them in order of acceptance.
 ghost use mathlib.Core.Path.{_≡_};
-ghost use lib.ListN.{take};
+ghost use lib.ListN.{length};
 ghost use Prim.Native.Nat.{_+_, _<_};
 ghost use Rattle.parts.specs.Choose.{pick};
 ghost use Rattle.parts.specs.Messages.{
@@ -17,7 +17,7 @@ ghost use Rattle.parts.specs.Messages.{
   among,
   chosenBy,
   splitBy,
-  hasPlace,
+  Marked,
   lowestFree,
 };
 
@@ -69,6 +69,11 @@ pub struct Best {
 pub struct Top {
     pub at: usize,
     pub priority: u8,
+}
+
+// A flag for each place: whether a message has it.
+pub struct Places {
+    pub taken: [bool; 256],
 }
 
 // A list in two parts, each in order.
@@ -243,32 +248,31 @@ pub fn split(l: Messages, w: Which) -> Parts
     Parts { kept: k, gone: g }
 }
 
-// Whether one of the first `k` messages has the place `p`.
-pub fn has_place(l: Messages, k: usize, p: u8) -> bool
-    ensures { λ r. ⌜ r ≡ hasPlace (take k (all l)) p ⌝ }
+// Which places the messages have.
+pub fn taken_places(l: Messages) -> Places
+    ensures { λ r. ⌜ (length (r .taken) ≡ 256) × Marked (r .taken) (all l) ⌝ }
 {
     let n = count(l);
+    let mut taken = [false; 256];
     let mut i: usize = 0;
     while i < n {
-        if k <= i {
-            return false;
-        }
         let m = l.items[i];
-        if m.place == p {
-            return true;
-        }
+        let p = m.place as usize;
+        taken[p] = true;
         i += 1;
     }
-    false
+    Places { taken }
 }
 
 // The lowest place, of 0 to 15, that no message has; 16 where each has one.
 pub fn lowest_free(l: Messages) -> u8
     ensures { λ r. ⌜ r ≡ lowestFree (all l) ⌝ }
 {
+    let f = taken_places(l);
     let mut p: u8 = 0;
     while p < 16 {
-        if !has_place(l, 16, p) {
+        let k = p as usize;
+        if !f.taken[k] {
             break;
         }
         p += 1;

@@ -94,27 +94,6 @@ module _ (m : Message) (ms : List Message) (p : ℕ) where
   unfolding hasPlace
   place-later n = pick-false true (hasPlace ms p) (ne-eqb (m .place) p n)
 
--- the same as a loop over the first k of a list has it, where i are passed
-module _ (ms rest : List Message) (m : Message) (k i p : ℕ) where
-  pub turn-done : k ≤ i → hasPlace (take (k - i) ms) p ≡ false
-  turn-done h =
-      let none-left : k - i ≡ 0 = omega arith in
-      ap (λ (n : ℕ). hasPlace (take n ms) p) none-left ∙ place-none p
-
-  turn-open : i < k → ms ≡ m ∷ rest → take (k - i) ms ≡ m ∷ take (k - (i + 1)) rest
-  turn-open h e =
-      let one-left : k - i ≡ suc (k - (i + 1)) = omega arith in
-      rw (e, one-left)
-
-  pub turn-here : i < k → ms ≡ m ∷ rest → m .place ≡ p → hasPlace (take (k - i) ms) p ≡ true
-  turn-here h e q = ap (λ (l : List Message). hasPlace l p) (turn-open h e) ∙ place-here m (take (k - (i + 1)) rest) p q
-
-  pub turn-later : i < k → ms ≡ m ∷ rest → (m .place ≡ p → ⊥) → hasPlace (take (k - i) ms) p ≡ hasPlace (take (k - (i + 1)) rest) p
-  turn-later h e q = ap (λ (l : List Message). hasPlace l p) (turn-open h e) ∙ place-later m (take (k - (i + 1)) rest) p q
-
-pub turn-end : (ms : List Message) (k p : ℕ) → ms ≡ [] → hasPlace (take k ms) p ≡ false
-turn-end ms k p e = ap (λ (l : List Message). hasPlace (take k l) p) e ∙ ap (λ (l : List Message). hasPlace l p) (take-nil k) ∙ place-none p
-
 module _ (k p : ℕ) (ms : List Message) where
   pub free-here : hasPlace ms p ≡ false → freeFrom (suc k) p ms ≡ p
   unfolding freeFrom
@@ -348,10 +327,6 @@ unfolding splitBy chosenBy pick
 both-parts w l k g p q = ap (λ (x : Messages). let r : Parts = record { kept = x; gone = g } in r) p ∙ ap (λ (x : Messages). let r : Parts = record { kept = chosenBy w false l; gone = x } in r) q
 
 -- ---- the loop over places
-
--- a list has at most sixteen messages
-pub sixteen : (l : Messages) → length (l .items) ≡ 16 → (p : ℕ) → hasPlace (take 16 (all l)) p ≡ hasPlace (all l) p
-sixteen l h p = ap (λ (ms : List Message). hasPlace ms p) (whole-to l h 16 (used-most l .0))
 
 module _ (n p : ℕ) (ms : List Message) where
   pub turn-free : p < n → hasPlace ms p ≡ false → freeFrom (n - p) p ms ≡ p
