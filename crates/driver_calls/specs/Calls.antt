@@ -16,7 +16,7 @@ use Rattle.parts.specs.Choose.{pick}
 use Rattle.parts.specs.Moves.{moveOf, runs}
 use Rattle.station.specs.Stations.{made, stateOf, answered, moved, unless}
 use Rattle.station.specs.Deeds.{refused}
-use Rattle.station.specs.Decide.{decided}
+use Rattle.station.specs.Decide.{decided, decidedStart, decidedTimer}
 use Rattle.station.specs.Start.{startRule}
 use Rattle.station.specs.Heard.{checks, frameRule}
 use Rattle.station.specs.Timer.{timerRule}
@@ -34,6 +34,8 @@ use Rattle.records.specs.Record.{stationOctets, recordOctets, readRecord}
 use Rattle.driver_buffers.specs.Places.{queued, received, taken, informationOf}
 use Rattle.driver_buffers.specs.Packets.{frameOf, sentOctets}
 use Rattle.driver_buffers.specs.Telling.{toldOf, takenTold}
+use Rattle.driver_calls.specs.declared.hearing.Call.{Call}
+use Rattle.driver_calls.specs.declared.hearing.Call.the-variants.{Start, Timer, Frame}
 
 -- ---- the station of a record and its ring
 
@@ -146,6 +148,12 @@ decidedPacket s ring from to packet =
     (decidedRead s ring (position ring from) (position ring to) (readPacket ring packet))
     (refused (s .turn) (checks s (position ring from) (position ring to))))
     (refused (s .turn) (moveOf (stateOf s) Heard))
+
+-- what a call that may send asks for
+abbrev pub decidedCall : Call → Station → List ℕ → List ℕ → Verdict
+decidedCall Start s ring packet = decidedStart s
+decidedCall Timer s ring packet = decidedTimer s
+decidedCall (Frame from to) s ring packet = decidedPacket s ring from to packet
 
 abbrev pub frameAnswer : List ℕ → ℕ → ℕ → List ℕ → Answer
 frameAnswer rec from to packet = packetRule (stationIn rec) (ringIn rec) from to packet

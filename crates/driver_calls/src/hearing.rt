@@ -2,7 +2,7 @@
 ghost use mathlib.Core.Path.{_≡_};
 ghost use Prim.Native.Nat.{_≤_};
 ghost use lib.ListN.{length};
-ghost use Rattle.driver_calls.specs.Calls.{Hearing, decidedPacket, heardInformation};
+ghost use Rattle.driver_calls.specs.Calls.{Hearing, decidedPacket, decidedCall, heardInformation};
 use crate::sending::bad_buffers;
 use crate::sending::settle;
 use codec::ring::members;
@@ -19,6 +19,13 @@ use station::rules::deeds::Verdict;
 use station::station::Payload;
 use station::station::Station;
 use wholeness::whole::whole;
+
+// A call that may send: a frame is heard from one address to another.
+pub enum Call {
+    Start,
+    Timer,
+    Frame(u64, u64),
+}
 
 // The information of a heard frame whose message is stored.
 pub fn heard_information(packet: &[u8], p: Payload) -> &[u8]
@@ -53,6 +60,19 @@ pub fn decide_packet(s: Station, ring: &[u64], from: u64, to: u64, packet: &[u8]
     }
 }
 
+// What a call asks of a station. One function for the three, which is not part of any of them: what it needs of the stack is
+// given back before what was decided is done.
+pub fn decide_call(c: Call, s: Station, ring: &[u64], packet: &[u8]) -> Verdict
+    requires { ⌜ length (now ring) ≤ 64 ⌝ }
+    ensures { λ r. ⌜ r ≡ decidedCall c s (now (ring .entry)) (now (packet .entry)) ⌝ }
+{
+    match c {
+        Call::Start => s.decide_start(),
+        Call::Timer => s.decide_timer(),
+        Call::Frame(from, to) => decide_packet(s, ring, from, to, packet),
+    }
+}
+
 // A frame is heard.
 pub fn frame(
     rec: &mut [u8],
@@ -74,7 +94,8 @@ pub fn frame(
         return 35;
     }
     let n = s.n as usize;
-    let v = decide_packet(s, members(&addresses, n), from, to, packet);
+    let call = Call::Frame(from, to);
+    let v = decide_call(call, s, members(&addresses, n), packet);
     if v.number != 0 {
         return v.number;
     }

@@ -12,6 +12,8 @@ ghost use Rattle.packet_codec.specs.Packet.{longestPacket};
 ghost use Rattle.driver_buffers.specs.Packets.{sentOctets};
 ghost use Rattle.driver_buffers.specs.Telling.{toldOf};
 ghost use Rattle.driver_calls.specs.Calls.{badBuffers, Holds, Left, Starting, Timing};
+use crate::hearing::Call;
+use crate::hearing::decide_call;
 use codec::ring::members;
 use driver_buffers::packets::compose;
 use driver_buffers::places::information_of;
@@ -114,7 +116,7 @@ pub fn start(rec: &mut [u8], out: &mut [u8], told: &mut [u64; 84]) -> u32
         return 35;
     }
     let n = s.n as usize;
-    let v = s.decide_start();
+    let v = decide_call(Call::Start, s, members(&addresses, n), b"");
     if v.number != 0 {
         return v.number;
     }
@@ -135,7 +137,7 @@ pub fn timer(rec: &mut [u8], store: &[u8], out: &mut [u8], told: &mut [u64; 84])
         return 35;
     }
     let n = s.n as usize;
-    let v = s.decide_timer();
+    let v = decide_call(Call::Timer, s, members(&addresses, n), b"");
     if v.number != 0 {
         return v.number;
     }

@@ -47,8 +47,8 @@ slice-aggregate-members c = search needs
 members-requires : tie.Need-members-requires
 members-requires c κs = search needs
 
-decide-packet-requires : tie.Need-decide-packet-requires
-decide-packet-requires c κs = few-held (held-at (c .before .before .before)) _ (c .members .ensures)
+decide-call-requires : tie.Need-decide-call-requires
+decide-call-requires c κs = few-held (held-at (c .before .before .before)) _ (c .members .ensures)
 
 same-length-2 : tie.Need-same-length-2
 same-length-2 c = search needs
@@ -56,7 +56,7 @@ same-length-2 c = search needs
 returns-3 : tie.Need-returns-3
 returns-3 c =
     let e = c .before .before .before .before .before .before in
-    heard-refused _ (good-buffers-at (e .before .before .before .before .before .before)) (held-at e) (c .before .before .before .members .ensures) (c .before .before .decide-packet .ensures) (c .if3 .taken)
+    heard-refused _ (good-buffers-at (e .before .before .before .before .before .before)) (held-at e) (c .before .before .before .members .ensures) (c .before .before .decide-call .ensures) (c .if3 .taken)
 
 slice-aggregate-members-2 : tie.Need-slice-aggregate-members-2
 slice-aggregate-members-2 c = slice-aggregate-members (c .before .before .before .before .before .before .before .before)
@@ -90,7 +90,7 @@ same-length-5 c = search needs
 returns-4 : tie.Need-returns-4
 returns-4 c =
     let e = c .before .before .before .before .before .before .before .before .before .before .before .before .before .before .before .before .before .before .before .before .before .before .before in
-    heard-done _ (good-buffers-at (e .before .before .before .before .before .before)) (held-at e) (c .before .before .before .before .before .before .before .before .before .before .before .before .before .before .before .before .before .before .before .before .members .ensures) (c .before .before .before .before .before .before .before .before .before .before .before .before .before .before .before .before .before .before .before .decide-packet .ensures) (c .before .before .before .before .before .before .before .before .before .before .before .before .before .before .before .before .before .if3 .left) _ _ _ _ _ _ _ _
+    heard-done _ (good-buffers-at (e .before .before .before .before .before .before)) (held-at e) (c .before .before .before .before .before .before .before .before .before .before .before .before .before .before .before .before .before .before .before .before .members .ensures) (c .before .before .before .before .before .before .before .before .before .before .before .before .before .before .before .before .before .before .before .decide-call .ensures) (c .before .before .before .before .before .before .before .before .before .before .before .before .before .before .before .before .before .if3 .left) _ _ _ _ _ _ _ _
     (c .before .before .before .before .before .before .before .before .before .before .before .before .members2 .ensures)
     (c .before .before .before .before .before .before .before .before .before .before .information-of .ensures)
     (c .before .before .before .before .before .before .before .before .before .settle .ensures)
@@ -111,7 +111,7 @@ frame-spec =
     cast-n
     slice-aggregate-members
     members-requires
-    decide-packet-requires
+    decide-call-requires
     same-length-2
     returns-3
     slice-aggregate-members-2
