@@ -230,7 +230,6 @@ int main(void)
     short_packet(2, 3, 1000, 0, MEMBERS, 1);
     heard();
     row("timer", "the same information of 1,492 again", measure(call_timer, plain), &most);
-    must(rtep_timer(record, sizeof record, store, sizeof store, out, sizeof out, &told));
     memcpy(kept, record, sizeof kept);
     row("timer", "the last one: struck, 8 given up", measure(call_timer, plain), &most);
 

@@ -3,6 +3,8 @@ ghost use mathlib.Core.Path.{_≡_};
 ghost use Prim.Native.Nat.{_+_, _≤_};
 ghost use lib.ListN.{length};
 ghost use Rattle.codec.specs.Octets.{laid};
+ghost use Rattle.parts.specs.Messages.{none};
+ghost use Rattle.parts.specs.declared.frame.Whom.the-variants.{Nobody};
 ghost use Rattle.driver_buffers.specs.Telling.{messageTold, goneTold, toldOf, takenTold};
 use crate::packets::address_of;
 use crate::packets::sent_size;
@@ -51,6 +53,17 @@ pub fn tell(told: &mut [u64], ring: &[u64], sent: Dispatch, struck: Whom, gone: 
     told[2] = whom_address(ring, struck);
     told[3] = count(gone) as u64;
     tell_gone(told, ring, gone);
+}
+
+// Tells a frame alone: nobody is struck, and no message given up.
+pub fn tell_sent(told: &mut [u64], ring: &[u64], sent: Dispatch)
+    requires { ⌜ 84 ≤ length (now told) ⌝ }
+    ensures { λ _. ⌜ now (told .exit) ≡ laid (now (told .entry)) 0 (toldOf (now (ring .entry)) sent Nobody none) ⌝ }
+{
+    told[0] = sent_size(ring, sent);
+    told[1] = sent_to(ring, sent);
+    told[2] = 0;
+    told[3] = 0;
 }
 
 // What take tells.

@@ -13,7 +13,10 @@ use Rattle.packet_codec.specs.Packet.{longestPacket, informationIn, readPacket,
 use Rattle.packet_codec.specs.declared.reading.Read.{Read}
 use Rattle.packet_codec.specs.declared.reading.Read.the-variants.{Refused, Good}
 use Rattle.parts.specs.Choose.{pick}
-use Rattle.station.specs.Stations.{made, answered, moved, unless}
+use Rattle.parts.specs.Moves.{moveOf, runs}
+use Rattle.station.specs.Stations.{made, stateOf, answered, moved, unless}
+use Rattle.station.specs.Deeds.{refused}
+use Rattle.station.specs.Decide.{decided, decidedStart, decidedTimer}
 use Rattle.station.specs.Start.{startRule}
 use Rattle.station.specs.Heard.{checks, frameRule}
 use Rattle.station.specs.Timer.{timerRule}
@@ -25,11 +28,14 @@ use Rattle.station.specs.declared.station.Station.{Station}
 use Rattle.station.specs.declared.station.Payload.{Payload}
 use Rattle.station.specs.declared.station.Payload.the-variants.{NoPayload, Of}
 use Rattle.station.specs.declared.station.Answer.{Answer}
+use Rattle.station.specs.declared.rules.deeds.Verdict.{Verdict}
 use Rattle.records.specs.Layout.{ownAt, recordLength, storeLength}
 use Rattle.records.specs.Record.{stationOctets, recordOctets, readRecord}
 use Rattle.driver_buffers.specs.Places.{queued, received, taken, informationOf}
 use Rattle.driver_buffers.specs.Packets.{frameOf, sentOctets}
 use Rattle.driver_buffers.specs.Telling.{toldOf, takenTold}
+use Rattle.driver_calls.specs.declared.hearing.Call.{Call}
+use Rattle.driver_calls.specs.declared.hearing.Call.the-variants.{Start, Timer, Frame}
 
 -- ---- the station of a record and its ring
 
@@ -60,6 +66,11 @@ badBuffers store out = pick (badStore store) true (badOut out)
 abbrev pub recordWith : List ℕ → Station → List ℕ
 recordWith rec s = laid rec ownAt (stationOctets s)
 
+-- the record is whole, and this station's
+pub record Holds (rec : List ℕ) (s : Station) : Type 0 where
+  pub whole : readRecord rec .ok ≡ true
+  pub station : s ≡ stationIn rec
+
 -- ---- make: 35, then the ring file's 1 to 7, then 8 for an own address that is absent
 
 abbrev pub ringOf : List ℕ → List ℕ
@@ -81,6 +92,12 @@ pub record Making (rec file : List ℕ) (own : ℕ) (r : ℕ) (rec′ : List ℕ
   pub record-is : rec′ ≡ kept r rec (laid rec 0 (recordOctets file (madeFrom file own)))
 
 -- ---- calls that may send: start, frame and timer
+
+-- what an answer of 0 leaves
+pub record Left (a : Answer) (ring info rec out told rec′ out′ told′ : List ℕ) : Type 0 where
+  pub record-is : rec′ ≡ recordWith rec (a .station)
+  pub out-is : out′ ≡ laid out 0 (sentOctets ring (a .sent) info)
+  pub told-is : told′ ≡ laid told 0 (toldOf ring (a .sent) (a .struck) (a .gone))
 
 pub record Sending (number : ℕ) (a : Answer) (ring info rec out told : List ℕ) (r : ℕ) (rec′ out′ told′ : List ℕ) : Type 0 where
   pub answer : r ≡ number
@@ -118,6 +135,25 @@ packetRule s ring from to packet =
     moved s Heard
     (unless s (checks s (position ring from) (position ring to))
     (heardThen s ring (position ring from) (position ring to) (readPacket ring packet)))
+
+-- what it asks for, in the same order
+abbrev pub decidedRead : Station → List ℕ → ℕ → ℕ → Read → Verdict
+decidedRead s ring from to (Refused number) = refused (s .turn) number
+decidedRead s ring from to (Good p) = decided s (frameOf ring p) from to
+
+unfoldable pub decidedPacket : Station → List ℕ → ℕ → ℕ → List ℕ → Verdict
+decidedPacket s ring from to packet =
+    pick (eqb (moveOf (stateOf s) Heard) runs)
+    (pick (eqb (checks s (position ring from) (position ring to)) 0)
+    (decidedRead s ring (position ring from) (position ring to) (readPacket ring packet))
+    (refused (s .turn) (checks s (position ring from) (position ring to))))
+    (refused (s .turn) (moveOf (stateOf s) Heard))
+
+-- what a call that may send asks for
+abbrev pub decidedCall : Call → Station → List ℕ → List ℕ → Verdict
+decidedCall Start s ring packet = decidedStart s
+decidedCall Timer s ring packet = decidedTimer s
+decidedCall (Frame from to) s ring packet = decidedPacket s ring from to packet
 
 abbrev pub frameAnswer : List ℕ → ℕ → ℕ → List ℕ → Answer
 frameAnswer rec from to packet = packetRule (stationIn rec) (ringIn rec) from to packet

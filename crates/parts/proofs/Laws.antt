@@ -3,6 +3,7 @@ pub mod Choose
 pub mod Tests
 pub mod Live
 pub mod Messages
+pub mod Places
 pub mod Ahead
 pub mod Best
 pub mod Moves

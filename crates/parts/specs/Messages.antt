@@ -1,14 +1,16 @@
 -- Messages and their lists.
+use mathlib.Core.Path.{_≡_}
 use mathlib.Core.Bool.{Bool, true, false, not, _&&_}
 use mathlib.Core.List.{List, [], _∷_, _++_}
 use Prim.Native.Nat.{ℕ, zero, suc, _+_, _-_, _≤_}
-use lib.ListN.{take, set, replicate, length}
+use lib.ListN.{take, set, replicate, length, getD}
 use lib.Dec.{ltb, eqb}
 use Rattle.parts.specs.Choose.{pick}
 use Rattle.parts.specs.declared.list.Message.{Message}
 use Rattle.parts.specs.declared.list.Messages.{Messages}
 use Rattle.parts.specs.declared.list.Flight.{Flight}
 use Rattle.parts.specs.declared.list.Best.{Best}
+use Rattle.parts.specs.declared.list.Top.{Top}
 use Rattle.parts.specs.declared.list.Parts.{Parts}
 use Rattle.parts.specs.declared.list.Which.{Which}
 use Rattle.parts.specs.declared.list.Which.the-variants.{AnyWaiting, WaitingFor, WaitingForOthers, HasPlace, OnChannel}
@@ -105,11 +107,36 @@ bestOf w (m ∷ ms) b = bestOf w ms (betterOf w b m)
 unfoldable pub best : Which → Messages → Best
 best w l = bestOf w (all l) noBest
 
+-- ---- the same by position
+
+-- the message at a position of the array, or none from 16 on
+abbrev pub standing : Messages → ℕ → Best
+standing l at = pick (ltb at 16) (theBest (getD (l .items) at blank)) noBest
+
+abbrev pub noTop : Top
+noTop = record { at = 16; priority = 0 }
+
+abbrev pub topAt : Message → ℕ → Top
+topAt m i = record { at = i; priority = m .priority }
+
+-- the message at `i` becomes the highest if there is none yet, or if its priority is higher
+unfoldable pub higherOf : Which → Top → Message → ℕ → Top
+higherOf w t m i =
+    pick (fits w m)
+    (pick (ltb (t .at) 16)
+    (pick (ltb (t .priority) (m .priority)) (topAt m i) t)
+    (topAt m i))
+    t
+
 -- ---- places
 
 unfoldable pub hasPlace : List Message → ℕ → Bool
 hasPlace [] p = false
 hasPlace (m ∷ ms) p = pick (eqb (m .place) p) true (hasPlace ms p)
+
+-- flags, one for each place: those of the places that the messages have
+unfoldable pub Marked : List Bool → List Message → Type 0
+Marked flags ms = (p : ℕ) → getD flags p false ≡ hasPlace ms p
 
 -- the first of the k numbers from p on that is no message's place; p + k where each is one
 unfoldable pub freeFrom : ℕ → ℕ → List Message → ℕ

@@ -1,6 +1,6 @@
 // Messages, and lists of at most 16 of them in order of acceptance.
 ghost use mathlib.Core.Path.{_≡_};
-ghost use lib.ListN.{take};
+ghost use lib.ListN.{length};
 ghost use Prim.Native.Nat.{_+_, _<_};
 ghost use Rattle.parts.specs.Choose.{pick};
 ghost use Rattle.parts.specs.Messages.{
@@ -11,12 +11,13 @@ ghost use Rattle.parts.specs.Messages.{
   pushed,
   flies,
   fits,
-  betterOf,
   best,
+  higherOf,
+  standing,
   among,
   chosenBy,
   splitBy,
-  hasPlace,
+  Marked,
   lowestFree,
 };
 
@@ -62,6 +63,17 @@ pub enum Which {
 pub struct Best {
     pub some: bool,
     pub message: Message,
+}
+
+// Where the highest message of those looked at stands, and its priority; at 16 where there is none.
+pub struct Top {
+    pub at: usize,
+    pub priority: u8,
+}
+
+// A flag for each place: whether a message has it.
+pub struct Places {
+    pub taken: [bool; 256],
 }
 
 // A list in two parts, each in order.
@@ -118,25 +130,60 @@ pub fn suits(w: Which, m: Message) -> bool
     }
 }
 
-// What is best once `m` is looked at too: a later one has to be higher.
-pub fn better(b: Best, w: Which, m: Message) -> Best
-    ensures { λ r. ⌜ r ≡ betterOf w b m ⌝ }
+// What is highest once the message at `i` is looked at too: a later one has to be higher.
+pub fn higher(t: Top, w: Which, m: Message, i: usize) -> Top
+    ensures { λ r. ⌜ r ≡ higherOf w t m i ⌝ }
 {
     if !suits(w, m) {
-        return b;
+        return t;
     }
-    if b.some {
-        if b.message.priority < m.priority {
-            return Best {
-                some: true,
-                message: m,
+    if t.at < 16 {
+        if t.priority < m.priority {
+            return Top {
+                at: i,
+                priority: m.priority,
             };
         }
-        return b;
+        return t;
+    }
+    Top {
+        at: i,
+        priority: m.priority,
+    }
+}
+
+// The position of the message of the highest priority among those that suit, the earliest of equals; 16 where none suits.
+pub fn chosen_at(l: Messages, w: Which) -> usize
+    ensures { λ r. ⌜ standing l r ≡ best w l ⌝ }
+{
+    let n = count(l);
+    let mut t = Top {
+        at: 16,
+        priority: 0,
+    };
+    let mut i: usize = 0;
+    while i < n {
+        let m = l.items[i];
+        t = higher(t, w, m, i);
+        i += 1;
+    }
+    t.at
+}
+
+// The message at a position, or none from 16 on.
+pub fn standing(l: Messages, at: usize) -> Best
+    ensures { λ r. ⌜ r ≡ standing l at ⌝ }
+{
+    if at < 16 {
+        let m = l.items[at];
+        return Best {
+            some: true,
+            message: m,
+        };
     }
     Best {
-        some: true,
-        message: m,
+        some: false,
+        message: BLANK,
     }
 }
 
@@ -144,18 +191,8 @@ pub fn better(b: Best, w: Which, m: Message) -> Best
 pub fn choose(l: Messages, w: Which) -> Best
     ensures { λ r. ⌜ r ≡ best w l ⌝ }
 {
-    let n = count(l);
-    let mut b = Best {
-        some: false,
-        message: BLANK,
-    };
-    let mut i: usize = 0;
-    while i < n {
-        let m = l.items[i];
-        b = better(b, w, m);
-        i += 1;
-    }
-    b
+    let at = chosen_at(l, w);
+    standing(l, at)
 }
 
 // Whether a message is one of those that suit, where `fitting`, or of the others.
@@ -211,32 +248,31 @@ pub fn split(l: Messages, w: Which) -> Parts
     Parts { kept: k, gone: g }
 }
 
-// Whether one of the first `k` messages has the place `p`.
-pub fn has_place(l: Messages, k: usize, p: u8) -> bool
-    ensures { λ r. ⌜ r ≡ hasPlace (take k (all l)) p ⌝ }
+// Which places the messages have.
+pub fn taken_places(l: Messages) -> Places
+    ensures { λ r. ⌜ (length (r .taken) ≡ 256) × Marked (r .taken) (all l) ⌝ }
 {
     let n = count(l);
+    let mut taken = [false; 256];
     let mut i: usize = 0;
     while i < n {
-        if k <= i {
-            return false;
-        }
         let m = l.items[i];
-        if m.place == p {
-            return true;
-        }
+        let p = m.place as usize;
+        taken[p] = true;
         i += 1;
     }
-    false
+    Places { taken }
 }
 
 // The lowest place, of 0 to 15, that no message has; 16 where each has one.
 pub fn lowest_free(l: Messages) -> u8
     ensures { λ r. ⌜ r ≡ lowestFree (all l) ⌝ }
 {
+    let f = taken_places(l);
     let mut p: u8 = 0;
     while p < 16 {
-        if !has_place(l, 16, p) {
+        let k = p as usize;
+        if !f.taken[k] {
             break;
         }
         p += 1;

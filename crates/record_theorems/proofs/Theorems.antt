@@ -2,3 +2,4 @@
 pub mod WriteRead
 pub mod ReadWrite
 pub mod Anew
+pub mod TurnAlone

@@ -1,7 +1,7 @@
 -- What a call decides, over the turn, the live set, the position and the head, before any list is touched.
 use mathlib.Core.Bool.{Bool}
 use Prim.Native.Nat.{ℕ}
-use lib.Dec.{eqb}
+use lib.Dec.{eqb, ltb}
 use Rattle.parts.specs.Choose.{pick}
 use Rattle.parts.specs.Moves.{moveOf, runs}
 use Rattle.parts.specs.Messages.{best}
@@ -9,11 +9,11 @@ use Rattle.parts.specs.Live.{without, successor}
 use Rattle.parts.specs.Frames.{numberOf, flight, noFlight, failingOf}
 use Rattle.sent.specs.Round.{reply, startRound}
 use Rattle.sent.specs.Resend.{resend}
-use Rattle.station.specs.Stations.{stateOf, awaitedOf, quietTurn, sendingTurn}
+use Rattle.station.specs.Stations.{stateOf, awaitedOf, quietTurn, sendingTurn, moreTurn}
 use Rattle.station.specs.Heard.{checks, acknowledged, stops, heardMessage}
 use Rattle.station.specs.Deeds.{verdict, refused, turned}
 use Rattle.parts.specs.declared.moves.State.the-variants.{Idle, Alone, Excluded}
-use Rattle.parts.specs.declared.moves.Event.the-variants.{Heard}
+use Rattle.parts.specs.declared.moves.Event.the-variants.{Start, Heard, Timer}
 use Rattle.parts.specs.declared.live.Live.{Live}
 use Rattle.parts.specs.declared.list.Flight.{Flight}
 use Rattle.parts.specs.declared.list.Which.{Which}
@@ -23,7 +23,7 @@ use Rattle.parts.specs.declared.frame.Whom.the-variants.{Nobody, Member}
 use Rattle.parts.specs.declared.frame.Frame.{Frame}
 use Rattle.parts.specs.declared.frame.Frame.the-variants.{Token, Transmit, Information}
 use Rattle.parts.specs.declared.frame.Dispatch.{Dispatch}
-use Rattle.parts.specs.declared.frame.Dispatch.the-variants.{Nothing}
+use Rattle.parts.specs.declared.frame.Dispatch.the-variants.{Nothing, Sent}
 use Rattle.sent.specs.declared.round.Sight.{Sight}
 use Rattle.station.specs.declared.station.Handled.the-variants.{Last}
 use Rattle.station.specs.declared.station.Turn.{Turn}
@@ -156,3 +156,27 @@ starting s =
     pick (eqb (s .own) 0)
     (beginning s (startRound (sightAfter s Nobody) 0 Nobody))
     (turned (quietTurn (s .turn) Idle) Nothing)
+
+-- after the table of moves
+
+unfoldable pub decidedStart : Station → Verdict
+decidedStart s =
+    pick (eqb (moveOf (stateOf s) Start) runs)
+    (starting s)
+    (refused (s .turn) (moveOf (stateOf s) Start))
+
+unfoldable pub decidedSilence : Station → ℕ → Frame → Verdict
+decidedSilence s to f =
+    pick (ltb (s .turn .retries) (s .limit))
+    (turned (moreTurn (s .turn)) (awaitedOf s))
+    (lastTimer s to f)
+
+unfoldable pub decidedAwaiting : Station → Dispatch → Verdict
+decidedAwaiting s Nothing = refused (s .turn) 0
+decidedAwaiting s (Sent frame to) = decidedSilence s to frame
+
+unfoldable pub decidedTimer : Station → Verdict
+decidedTimer s =
+    pick (eqb (moveOf (stateOf s) Timer) runs)
+    (decidedAwaiting s (awaitedOf s))
+    (refused (s .turn) (moveOf (stateOf s) Timer))

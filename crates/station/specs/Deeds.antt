@@ -82,6 +82,20 @@ alsoFlight d f = pick (f .on) (alsoAt d (f .place)) d
 abbrev pub allStay : Messages → Parts
 allStay l = record { kept = l; gone = none }
 
+-- those that are given up with a station that is struck: the waiting ones to it, where f is in flight
+unfoldable pub waitersLeave : Blow → Flight → Messages → Parts
+waitersLeave Spares f l = allStay l
+waitersLeave (Another p) f l = splitBy (WaitingFor f p) l
+waitersLeave (Last p) f l = splitBy (WaitingFor f p) l
+waitersLeave (Itself p) f l = allStay l
+
+-- and the one in flight, where it goes too
+unfoldable pub flightLeaves : Blow → Flight → Flight
+flightLeaves Spares f = noFlight
+flightLeaves (Another p) f = noFlight
+flightLeaves (Last p) f = f
+flightLeaves (Itself p) f = f
+
 -- who is given up with a station that is struck, in order, where f is in flight
 unfoldable pub leaving : Blow → Flight → Messages → Parts
 leaving Spares f l = allStay l
@@ -156,3 +170,7 @@ turnAlone s v =
       gone = none;
       payload = NoPayload;
     }
+
+-- where the turn alone changes, no list is looked at
+unfoldable pub doneBy : Station → Verdict → Answer
+doneBy s v = pick (v .alone) (turnAlone s v) (carriedOut s v)

@@ -1,31 +1,42 @@
 -- Laws of the calls of a driver: what a whole record says, the number in its order, and what a refusal and an answer of 0 leave.
 -- Assumes nothing.
-use mathlib.Core.Path.{_≡_, refl, sym, ap, _∙_}
+use mathlib.Core.Path.{_≡_, refl, sym, ap, _∙_, subst}
 use mathlib.Core.Bool.{Bool, true, false}
 use mathlib.Core.List.{List, []}
 use Prim.Native.Nat.{ℕ, _+_, _-_, _*_, _≤_, zero-le}
 use native.Mathlib.Omega.{arith}
 use borrow.Author.Tests.{ne-eqb, eqb-true, ltb-false, not-false}
 use lib.ListN.{length, take, drop, length-take, length-append}
-use Rattle.codec.specs.Octets.{laid, zeros}
+use Rattle.codec.specs.Octets.{Octets, laid, zeros}
 use Rattle.packet_codec.specs.Packet.{kept}
 use Rattle.codec.specs.Ring.{RingRead, count, addressesOf, ringOf, readRing}
 use Rattle.codec.proofs.Laws.Octets.{length-zeros}
 use Rattle.codec.proofs.Laws.Ring.{few-members, read-zero, read-good, length-addresses}
 use Rattle.parts.specs.Choose.{pick}
+use Rattle.parts.specs.Messages.{none}
+use Rattle.parts.proofs.Laws.Choose.{pick-true, pick-false}
+use Rattle.parts.specs.declared.frame.Whom.the-variants.{Nobody}
+use Rattle.station.specs.Stations.{withTurn}
+use Rattle.station.specs.Deeds.{carriedOut, turnAlone, doneBy}
+use Rattle.station.proofs.Laws.Decide.{Decides, done-so}
+use Rattle.station.specs.declared.rules.deeds.Verdict.{Verdict}
+use Rattle.station.specs.declared.station.Payload.{Payload}
+use Rattle.station.specs.declared.station.Payload.the-variants.{NoPayload}
 use Rattle.wholeness.specs.Whole.{whole}
 use Rattle.parts.specs.declared.frame.Frame.the-variants.{Token, Transmit, Information}
 use Rattle.parts.specs.declared.frame.Dispatch.{Dispatch}
 use Rattle.parts.specs.declared.frame.Dispatch.the-variants.{Nothing, Sent}
 use Rattle.station.specs.declared.station.Station.{Station}
 use Rattle.station.specs.declared.station.Answer.{Answer}
-use Rattle.records.specs.Layout.{placeLength, storeLength}
+use Rattle.records.specs.Layout.{ownAt, placeLength, recordLength, storeLength}
+use Rattle.records.specs.Fields.{turnOctets}
 use Rattle.records.specs.Record.{readRecord}
-use Rattle.records.proofs.Laws.Load.{Held}
+use Rattle.records.proofs.Laws.Load.{Held, whole-record}
+use Rattle.record_theorems.proofs.Theorems.TurnAlone.{turn-alone-written}
 use Rattle.driver_buffers.specs.Places.{fitsPlace, inPlace, carriedIn, informationOf}
 use Rattle.driver_buffers.specs.Packets.{sentOctets}
 use Rattle.driver_buffers.specs.Telling.{toldOf}
-use Rattle.driver_calls.specs.Calls.{ringIn, stationIn, callNumber, badOut, badStore, badBuffers, recordWith, Sending}
+use Rattle.driver_calls.specs.Calls.{ringIn, stationIn, callNumber, badOut, badStore, badBuffers, recordWith, Holds, Left, Sending}
 use Rattle.driver_buffers.proofs.Laws.Places.{fits-sound}
 
 -- ---- a record that is whole
@@ -46,6 +57,15 @@ length-filled file e =
 -- as the code has it, with the members that it holds
 pub few-held : {rec addresses : List ℕ} {n : ℕ} {st : Station} → Held rec addresses n st → (ms : List ℕ) → ms ≡ take n addresses → length ms ≤ 64
 few-held {addresses = addresses} {n = n} h ms e = rw (e, length-take) (omega (arith, h .few))
+
+-- the record is the station's
+pub holds : {rec addresses : List ℕ} {n : ℕ} {st : Station} → Held rec addresses n st → Holds rec st
+holds h = record { whole = h .ok; station = h .station }
+
+pub holds-sized : {rec : List ℕ} {s : Station} → Holds rec s → recordLength ≤ length rec
+holds-sized {rec} h =
+    let e : length rec ≡ recordLength = whole-record rec (h .whole) .sized in
+    omega arith
 
 -- ---- the information that a frame carries fits
 
@@ -110,6 +130,58 @@ module _ {bad : Bool} {rec : List ℕ} {a : Answer} where
       pub done : b .number ≡ 0 → Done bad rec a
       done z = record { number-is = sym z ∙ own-number bad rec a b good ok answer }
 
+-- with a number that is the answer's
+pub refused-by : {bad : Bool} {rec : List ℕ} {a : Answer} → bad ≡ false → readRecord rec .ok ≡ true → (b : Answer) → b ≡ a
+    → {r : ℕ} → b .number ≡ r → (r ≡ 0 → ⊥) → Refusal bad rec a r
+refused-by {bad} {rec} {a} good ok b answer e n =
+    subst (Refusal bad rec a) e (refused-own good ok b answer (λ z. n (sym e ∙ z)))
+
+-- ---- what is decided and done has the verdict's number and frame
+
+module _ (s : Station) (v : Verdict) where
+  pub done-number : doneBy s v .number ≡ v .number
+  unfolding doneBy pick carriedOut
+  done-number = go (v .alone)
+    where
+      go : (c : Bool) → pick c (turnAlone s v) (carriedOut s v) .number ≡ v .number
+      go true = refl
+      go false = refl
+
+  pub done-sent : doneBy s v .sent ≡ v .sent
+  unfolding doneBy pick carriedOut
+  done-sent = go (v .alone)
+    where
+      go : (c : Bool) → pick c (turnAlone s v) (carriedOut s v) .sent ≡ v .sent
+      go true = refl
+      go false = refl
+
+  module _ (ring info rec out told rec′ out′ told′ : List ℕ) where
+    -- the payload's message, and what is left
+    abbrev Settled : Payload → Answer → Type 0
+    Settled p a = (p ≡ a .payload) × Left a ring info rec out told rec′ out′ told′
+
+    -- the turn alone is written, where the record is the station's
+    pub turn-settled : Octets rec → Holds rec s → v .alone ≡ true
+        → (rec′ ≡ laid rec ownAt (turnOctets (s .own) (v .turn))) × ((out′ ≡ laid out 0 (sentOctets ring (v .sent) info)) × (told′ ≡ laid told 0 (toldOf ring (v .sent) Nobody none)))
+        → Settled NoPayload (doneBy s v)
+    unfolding doneBy
+    turn-settled o h e w =
+        let written : laid rec ownAt (turnOctets (s .own) (v .turn)) ≡ recordWith rec (withTurn s (v .turn)) =
+        subst (λ (x : Station). laid rec ownAt (turnOctets (x .own) (v .turn)) ≡ recordWith rec (withTurn x (v .turn))) (sym (h .station)) (turn-alone-written rec o (h .whole) (v .turn)) in
+        let left : Settled NoPayload (turnAlone s v) = (refl, record { record-is = w .0 ∙ written; out-is = w .1 .0; told-is = w .1 .1 }) in
+        subst (Settled NoPayload) (sym (pick-true _ _ e)) left
+
+    pub all-settled : (p : Payload) → v .alone ≡ false → Settled p (carriedOut s v) → Settled p (doneBy s v)
+    unfolding doneBy
+    all-settled p e left = subst (Settled p) (sym (pick-false _ _ e)) left
+
+-- an answer a of the code that is b leaves what b leaves
+pub left-so : {ring info rec out told rec′ out′ told′ : List ℕ} (a b : Answer) → a ≡ b → rec′ ≡ recordWith rec (a .station)
+    → out′ ≡ laid out 0 (sentOctets ring (a .sent) info) → told′ ≡ laid told 0 (toldOf ring (a .sent) (a .struck) (a .gone))
+    → (a .payload ≡ b .payload) × Left b ring info rec out told rec′ out′ told′
+left-so {ring} {info} {rec} {out} {told} {rec′} {out′} {told′} a b e p q r =
+    subst (λ (x : Answer). (a .payload ≡ x .payload) × Left x ring info rec out told rec′ out′ told′) e (refl, record { record-is = p; out-is = q; told-is = r })
+
 -- ---- what a call leaves
 
 pub kept-old : (r : ℕ) (old new : List ℕ) → (r ≡ 0 → ⊥) → old ≡ kept r old new
@@ -125,14 +197,14 @@ module _ {bad : Bool} {rec : List ℕ} {a : Answer} {ring info out told : List �
 
   -- with an answer b of the code, its members and its information
   pub all-sent : (b : Answer) (ms carried rec′ out′ told′ : List ℕ) → Done bad rec a → b ≡ a → ms ≡ ring → carried ≡ info
-      → (rec′ ≡ recordWith rec (b .station)) × ((out′ ≡ laid out 0 (sentOctets ms (b .sent) carried)) × (told′ ≡ laid told 0 (toldOf ms (b .sent) (b .struck) (b .gone))))
+      → Left b ms carried rec out told rec′ out′ told′
       → Sending (callNumber bad rec a) a ring info rec out told 0 rec′ out′ told′
   all-sent b ms carried rec′ out′ told′ d eb em ei s =
       record {
         answer = d .number-is;
-        record-is = s .0 ∙ ap (λ (x : Answer). recordWith rec (x .station)) eb;
-        out-is = s .1 .0 ∙ rw (eb, em, ei);
-        told-is = s .1 .1 ∙ rw (eb, em);
+        record-is = s .record-is ∙ ap (λ (x : Answer). recordWith rec (x .station)) eb;
+        out-is = s .out-is ∙ rw (eb, em, ei);
+        told-is = s .told-is ∙ rw (eb, em);
       }
 
 -- a call that may send and whose answer goes by the station alone: start and timer
@@ -145,21 +217,28 @@ StationSending bad rule info rec =
 by-station : {rec addresses : List ℕ} {n : ℕ} {st : Station} → Held rec addresses n st → (rule : Station → Answer) (b : Answer) → b ≡ rule st → b ≡ rule (stationIn rec)
 by-station h rule b answer = answer ∙ ap rule (h .station)
 
-module _ {bad : Bool} {rec addresses out told : List ℕ} {n : ℕ} {st : Station} (rule : Station → Answer) (info : Dispatch → List ℕ)
+-- what is decided over it and done is what the rule answers
+done-station : {rec addresses : List ℕ} {n : ℕ} {st : Station} → Held rec addresses n st → (rule : Station → Answer) (verdict : Station → Verdict)
+    → ((s : Station) → Decides s (rule s) (verdict s)) → (v : Verdict) → v ≡ verdict st → doneBy st v ≡ rule (stationIn rec)
+done-station {st = st} h rule verdict so v asked = by-station h rule (doneBy st v) (ap (doneBy st) asked ∙ done-so (so st))
+
+module _ {bad : Bool} {rec addresses out told : List ℕ} {n : ℕ} {st : Station} (rule : Station → Answer) (verdict : Station → Verdict)
+    (so : (s : Station) → Decides s (rule s) (verdict s))
+    (info : Dispatch → List ℕ)
     (good : bad ≡ false)
     (h : Held rec addresses n st)
-    (b : Answer)
-    (answer : b ≡ rule st)
+    (v : Verdict)
+    (asked : v ≡ verdict st)
   where
-    pub station-refuses : (b .number ≡ 0 → ⊥) → StationSending bad rule info rec out told (b .number) rec out told
-    station-refuses n = not-sent (refused-own good (h .ok) b (by-station h rule b answer) n)
+    pub station-refuses : (v .number ≡ 0 → ⊥) → StationSending bad rule info rec out told (v .number) rec out told
+    station-refuses n = not-sent (refused-by good (h .ok) (doneBy st v) (done-station h rule verdict so v asked) (done-number st v) n)
 
-    pub station-sends : b .number ≡ 0 → (ms carried rec′ out′ told′ : List ℕ) → ms ≡ take n addresses → carried ≡ info (b .sent)
-        → (rec′ ≡ recordWith rec (b .station)) × ((out′ ≡ laid out 0 (sentOctets ms (b .sent) carried)) × (told′ ≡ laid told 0 (toldOf ms (b .sent) (b .struck) (b .gone))))
+    pub station-sends : v .number ≡ 0 → (ms carried rec′ out′ told′ : List ℕ) → ms ≡ take n addresses → carried ≡ info (v .sent)
+        → Left (doneBy st v) ms carried rec out told rec′ out′ told′
         → StationSending bad rule info rec out told 0 rec′ out′ told′
     station-sends z ms carried rec′ out′ told′ em ei s =
-        let e : b ≡ rule (stationIn rec) = by-station h rule b answer in
-        all-sent b ms carried rec′ out′ told′ (done good (h .ok) b e z) e
+        let answers : doneBy st v ≡ rule (stationIn rec) = done-station h rule verdict so v asked in
+        all-sent (doneBy st v) ms carried rec′ out′ told′ (done good (h .ok) (doneBy st v) answers (done-number st v ∙ z)) answers
         (em ∙ h .members)
-        (ei ∙ ap (λ (x : Answer). info (x .sent)) e)
+        (ei ∙ ap info (sym (done-sent st v)) ∙ ap (λ (x : Answer). info (x .sent)) answers)
         s

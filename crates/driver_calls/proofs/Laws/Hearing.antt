@@ -1,18 +1,19 @@
 -- Laws of a heard packet: what a station answers, step by step, which part of the packet is the information, and what the call leaves.
 -- Assumes nothing.
-use mathlib.Core.Path.{_≡_, sym, ap, _∙_}
-use mathlib.Core.Bool.{false}
+use mathlib.Core.Path.{_≡_, refl, sym, ap, _∙_}
+use mathlib.Core.Bool.{Bool, true, false}
 use mathlib.Core.List.{List}
 use Prim.Native.Nat.{ℕ}
+use borrow.Author.Tests.{eq-eqb, ne-eqb}
+use lib.Dec.{eqb}
 use lib.ListN.{length, take}
-use Rattle.codec.specs.Octets.{laid}
 use Rattle.codec.specs.Ring.{position}
 use Rattle.packet_codec.specs.Packet.{informationIn, readPacket}
 use Rattle.packet_codec.specs.declared.packet.Packet.{Packet}
 use Rattle.packet_codec.specs.declared.reading.Read.{Read}
 use Rattle.packet_codec.specs.declared.reading.Read.the-variants.{Refused, Good}
 use Rattle.parts.specs.Moves.{moveOf, runs}
-use Rattle.station.specs.Stations.{stateOf, answered}
+use Rattle.station.specs.Stations.{stateOf, answered, moved, unless}
 use Rattle.station.specs.Heard.{checks, frameRule}
 use Rattle.parts.specs.declared.list.Message.{Message}
 use Rattle.parts.specs.declared.frame.Frame.{Frame}
@@ -21,44 +22,74 @@ use Rattle.station.specs.declared.station.Station.{Station}
 use Rattle.station.specs.declared.station.Payload.{Payload}
 use Rattle.station.specs.declared.station.Payload.the-variants.{Of}
 use Rattle.station.specs.declared.station.Answer.{Answer}
-use Rattle.station.proofs.Laws.Moved.{moved-runs, moved-stops, unless-passes, unless-refuses}
+use Rattle.parts.specs.Choose.{pick}
+use Rattle.parts.proofs.Laws.Choose.{pick-true, pick-false}
+use Rattle.station.specs.Deeds.{refused, doneBy}
+use Rattle.station.specs.Decide.{decided}
+use Rattle.station.specs.declared.rules.deeds.Verdict.{Verdict}
+use Rattle.parts.specs.declared.frame.Dispatch.the-variants.{Nothing}
+use Rattle.station.proofs.Laws.Deeds.{turned-alone}
+use Rattle.station.proofs.Laws.Decide.{Decides, frame-so, done-so}
 use Rattle.records.proofs.Laws.Load.{Held}
 use Rattle.driver_buffers.specs.Places.{received, informationOf}
-use Rattle.driver_buffers.specs.Packets.{frameOf, sentOctets}
-use Rattle.driver_buffers.specs.Telling.{toldOf}
-use Rattle.driver_calls.specs.Calls.{ringIn, badBuffers, recordWith, heardThen, packetRule, frameAnswer, heardInformation, Hearing}
-use Rattle.driver_calls.proofs.Laws.Calls.{Refusal, refused-own, done, kept-old, not-sent, all-sent}
+use Rattle.driver_buffers.specs.Packets.{frameOf}
+use Rattle.driver_calls.specs.Calls.{ringIn, badBuffers, Left, heardThen, packetRule, decidedRead, decidedPacket, frameAnswer, heardInformation, Hearing}
+use Rattle.driver_calls.proofs.Laws.Calls.{Refusal, refused-by, done, done-number, done-sent, kept-old, not-sent, all-sent}
 
--- ---- what a station answers: the table of moves, the checks of both ends, the reading, the rule
+-- ---- what a packet asks for: the table of moves, the checks of both ends, the reading, what the frame asks for
 
 module _ (s : Station) (ring : List ℕ) (from to : ℕ) (packet : List ℕ) {m : ℕ} (looked : m ≡ moveOf (stateOf s) Heard) where
-  pub packet-stops : (m ≡ runs → ⊥) → answered s m ≡ packetRule s ring from to packet
-  unfolding packetRule
-  packet-stops n = sym (moved-stops s Heard _ looked n)
+  pub packet-stops : (m ≡ runs → ⊥) → refused (s .turn) m ≡ decidedPacket s ring from to packet
+  unfolding decidedPacket
+  packet-stops n = ap (refused (s .turn)) looked ∙ sym (pick-false _ _ (ne-eqb _ _ (λ e. n (looked ∙ e))))
 
   module _ (run : m ≡ runs) {f t k : ℕ} (sender : f ≡ position ring from) (addressee : t ≡ position ring to) (checked : k ≡ checks s f t) where
     -- the checks are those of the positions
     checked-at : k ≡ checks s (position ring from) (position ring to)
     checked-at = checked ∙ rw (sender, addressee)
 
-    pub packet-refused : (k ≡ 0 → ⊥) → answered s k ≡ packetRule s ring from to packet
-    unfolding packetRule
-    packet-refused n = sym (moved-runs s Heard _ looked run ∙ unless-refuses s _ _ checked-at n)
+    pub packet-refused : (k ≡ 0 → ⊥) → refused (s .turn) k ≡ decidedPacket s ring from to packet
+    unfolding decidedPacket
+    packet-refused n =
+        ap (refused (s .turn)) checked-at
+        ∙ sym (pick-true _ _ (eq-eqb _ _ (sym looked ∙ run)) ∙ pick-false _ _ (ne-eqb _ _ (λ e. n (checked-at ∙ e))))
 
     module _ (passed : k ≡ 0) {r : Read} (read : r ≡ readPacket ring packet) where
-      -- past the checks the answer is that to what was read
-      read-then : heardThen s ring (position ring from) (position ring to) r ≡ packetRule s ring from to packet
-      unfolding packetRule
+      -- past the checks it is what was read that asks
+      read-then : decidedRead s ring (position ring from) (position ring to) r ≡ decidedPacket s ring from to packet
+      unfolding decidedPacket
       read-then =
-          ap (heardThen s ring (position ring from) (position ring to)) read
-          ∙ sym (moved-runs s Heard _ looked run ∙ unless-passes s _ _ checked-at passed)
+          ap (decidedRead s ring (position ring from) (position ring to)) read
+          ∙ sym (pick-true _ _ (eq-eqb _ _ (sym looked ∙ run)) ∙ pick-true _ _ (eq-eqb _ _ (sym checked-at ∙ passed)))
 
-      pub packet-unread : (n : ℕ) → r ≡ Refused n → answered s n ≡ packetRule s ring from to packet
-      packet-unread n e = ap (heardThen s ring (position ring from) (position ring to)) (sym e) ∙ read-then
+      pub packet-unread : (n : ℕ) → r ≡ Refused n → refused (s .turn) n ≡ decidedPacket s ring from to packet
+      packet-unread n e = ap (decidedRead s ring (position ring from) (position ring to)) (sym e) ∙ read-then
 
-      pub packet-read : (p : Packet) (g : Frame) → r ≡ Good p → g ≡ frameOf ring p → frameRule s g f t ≡ packetRule s ring from to packet
+      pub packet-read : (p : Packet) (g : Frame) → r ≡ Good p → g ≡ frameOf ring p → decided s g f t ≡ decidedPacket s ring from to packet
       packet-read p g e h =
-          rw (h, sender, addressee) (ap (heardThen s ring (position ring from) (position ring to)) (sym e) ∙ read-then)
+          rw (h, sender, addressee) (ap (decidedRead s ring (position ring from) (position ring to)) (sym e) ∙ read-then)
+
+refused-so : (s : Station) (n : ℕ) → Decides s (answered s n) (refused (s .turn) n)
+refused-so s n = record { carried = turned-alone s n (s .turn) Nothing; honest = refl }
+
+-- once it is done, it is what the station answers
+packet-so : (s : Station) (ring : List ℕ) (from to : ℕ) (packet : List ℕ) → Decides s (packetRule s ring from to packet) (decidedPacket s ring from to packet)
+unfolding packetRule decidedPacket moved unless pick
+packet-so s ring from to packet = go (eqb (moveOf (stateOf s) Heard) runs) (eqb (checks s f t) 0) (readPacket ring packet)
+  where
+    f : ℕ
+    f = position ring from
+
+    t : ℕ
+    t = position ring to
+
+    go : (a b : Bool) (r : Read)
+        → Decides s (pick a (pick b (heardThen s ring f t r) (answered s (checks s f t))) (answered s (moveOf (stateOf s) Heard)))
+        (pick a (pick b (decidedRead s ring f t r) (refused (s .turn) (checks s f t))) (refused (s .turn) (moveOf (stateOf s) Heard)))
+    go true true (Refused n) = refused-so s n
+    go true true (Good p) = frame-so s (frameOf ring p) f t
+    go true false r = refused-so s (checks s f t)
+    go false b r = refused-so s (moveOf (stateOf s) Heard)
 
 -- ---- the information of a heard frame whose message is stored
 
@@ -80,30 +111,39 @@ held-answer {rec = rec} {st = st} h packet ms from to b seats answer =
     ∙ ap (λ (x : List ℕ). packetRule st x from to packet) (seats ∙ h .members)
     ∙ ap (λ (x : Station). packetRule x (ringIn rec) from to packet) (h .station)
 
-module _ {rec addresses store packet out told ms : List ℕ} {n from to : ℕ} {st : Station} (b : Answer)
+-- what is decided over it and done is the record's
+done-packet : {rec addresses : List ℕ} {n : ℕ} {st : Station} → Held rec addresses n st → (packet ms : List ℕ) (from to : ℕ) (v : Verdict)
+    → ms ≡ take n addresses → v ≡ decidedPacket st ms from to packet → doneBy st v ≡ frameAnswer rec from to packet
+done-packet {st = st} h packet ms from to v seats asked =
+    held-answer h packet ms from to (doneBy st v) seats (ap (doneBy st) asked ∙ done-so (packet-so st ms from to packet))
+
+module _ {rec addresses store packet out told ms : List ℕ} {n from to : ℕ} {st : Station} (v : Verdict)
     (good : badBuffers (length store) (length out) ≡ false)
     (h : Held rec addresses n st)
     (seats : ms ≡ take n addresses)
-    (answer : b ≡ packetRule st ms from to packet)
+    (asked : v ≡ decidedPacket st ms from to packet)
   where
-    pub heard-refused : (b .number ≡ 0 → ⊥) → Hearing rec store from to packet out told (b .number) rec store out told
-    heard-refused k = not-heard (refused-own good (h .ok) b (held-answer h packet ms from to b seats answer) k)
+    pub heard-refused : (v .number ≡ 0 → ⊥) → Hearing rec store from to packet out told (v .number) rec store out told
+    heard-refused k = not-heard (refused-by good (h .ok) (doneBy st v) (done-packet h packet ms from to v seats asked) (done-number st v) k)
 
     -- composed from the store as it was, with the members anew; then the heard payload is stored
-    pub heard-done : b .number ≡ 0 → (again carried information rec′ store′ out′ told′ : List ℕ)
+    pub heard-done : v .number ≡ 0 → (again carried information rec′ store′ out′ told′ : List ℕ) (p : Payload)
         → again ≡ take n addresses
-        → carried ≡ informationOf store (b .sent)
-        → (rec′ ≡ recordWith rec (b .station)) × ((out′ ≡ laid out 0 (sentOctets again (b .sent) carried)) × (told′ ≡ laid told 0 (toldOf again (b .sent) (b .struck) (b .gone))))
-        → information ≡ heardInformation packet (b .payload)
-        → store′ ≡ received store (b .payload) information
+        → carried ≡ informationOf store (v .sent)
+        → (p ≡ doneBy st v .payload) × Left (doneBy st v) again carried rec out told rec′ out′ told′
+        → information ≡ heardInformation packet p
+        → store′ ≡ received store p information
         → Hearing rec store from to packet out told 0 rec′ store′ out′ told′
-    heard-done z again carried information rec′ store′ out′ told′ er ec settled ei es =
-        let e : b ≡ frameAnswer rec from to packet = held-answer h packet ms from to b seats answer in
+    heard-done z again carried information rec′ store′ out′ told′ p er ec settled ei es =
+        let answers : doneBy st v ≡ frameAnswer rec from to packet = done-packet h packet ms from to v seats asked in
         record {
           sending =
-              all-sent b again carried rec′ out′ told′ (done good (h .ok) b e z) e
+              all-sent (doneBy st v) again carried rec′ out′ told′ (done good (h .ok) (doneBy st v) answers (done-number st v ∙ z)) answers
               (er ∙ h .members)
-              (ec ∙ ap (λ (x : Answer). informationOf store (x .sent)) e)
-              settled;
-          store-is = es ∙ ap (received store (b .payload)) ei ∙ ap (λ (x : Answer). received store (x .payload) (heardInformation packet (x .payload))) e;
+              (ec ∙ ap (informationOf store) (sym (done-sent st v)) ∙ ap (λ (x : Answer). informationOf store (x .sent)) answers)
+              (settled .1);
+          store-is =
+              es
+              ∙ ap (received store p) ei
+              ∙ ap (λ (q : Payload). received store q (heardInformation packet q)) (settled .0 ∙ ap (λ (x : Answer). x .payload) answers);
         }

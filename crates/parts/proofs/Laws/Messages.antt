@@ -13,9 +13,10 @@ use Rattle.parts.specs.Choose.{pick}
 use Rattle.parts.specs.declared.list.Message.{Message}
 use Rattle.parts.specs.declared.list.Messages.{Messages}
 use Rattle.parts.specs.declared.list.Best.{Best}
+use Rattle.parts.specs.declared.list.Top.{Top}
 use Rattle.parts.specs.declared.list.Parts.{Parts}
 use Rattle.parts.specs.declared.list.Which.{Which}
-use Rattle.parts.specs.Messages.{all, used, blank, pack, pushed, fits, only, splitBy, chosenBy, theBest, betterOf, bestOf, hasPlace, freeFrom}
+use Rattle.parts.specs.Messages.{all, used, blank, pack, pushed, fits, only, splitBy, chosenBy, noBest, theBest, betterOf, bestOf, standing, topAt, higherOf, hasPlace, freeFrom}
 use Rattle.parts.proofs.Laws.Choose.{pick-true, pick-false}
 
 -- what owning an array of structs tells of its list
@@ -92,27 +93,6 @@ module _ (m : Message) (ms : List Message) (p : ℕ) where
   pub place-later : (m .place ≡ p → ⊥) → hasPlace (m ∷ ms) p ≡ hasPlace ms p
   unfolding hasPlace
   place-later n = pick-false true (hasPlace ms p) (ne-eqb (m .place) p n)
-
--- the same as a loop over the first k of a list has it, where i are passed
-module _ (ms rest : List Message) (m : Message) (k i p : ℕ) where
-  pub turn-done : k ≤ i → hasPlace (take (k - i) ms) p ≡ false
-  turn-done h =
-      let none-left : k - i ≡ 0 = omega arith in
-      ap (λ (n : ℕ). hasPlace (take n ms) p) none-left ∙ place-none p
-
-  turn-open : i < k → ms ≡ m ∷ rest → take (k - i) ms ≡ m ∷ take (k - (i + 1)) rest
-  turn-open h e =
-      let one-left : k - i ≡ suc (k - (i + 1)) = omega arith in
-      rw (e, one-left)
-
-  pub turn-here : i < k → ms ≡ m ∷ rest → m .place ≡ p → hasPlace (take (k - i) ms) p ≡ true
-  turn-here h e q = ap (λ (l : List Message). hasPlace l p) (turn-open h e) ∙ place-here m (take (k - (i + 1)) rest) p q
-
-  pub turn-later : i < k → ms ≡ m ∷ rest → (m .place ≡ p → ⊥) → hasPlace (take (k - i) ms) p ≡ hasPlace (take (k - (i + 1)) rest) p
-  turn-later h e q = ap (λ (l : List Message). hasPlace l p) (turn-open h e) ∙ place-later m (take (k - (i + 1)) rest) p q
-
-pub turn-end : (ms : List Message) (k p : ℕ) → ms ≡ [] → hasPlace (take k ms) p ≡ false
-turn-end ms k p e = ap (λ (l : List Message). hasPlace (take k l) p) e ∙ ap (λ (l : List Message). hasPlace l p) (take-nil k) ∙ place-none p
 
 module _ (k p : ℕ) (ms : List Message) where
   pub free-here : hasPlace ms p ≡ false → freeFrom (suc k) p ms ≡ p
@@ -210,6 +190,74 @@ module _ (w : Which) (b : Best) (m : Message) where
     unfolding betterOf
     better-kept f h = pick-true _ b e ∙ pick-true _ (theBest m) f ∙ pick-false (theBest m) b (le-ltb (b .message .priority) (m .priority) h)
 
+-- ---- the same by position
+
+module _ (w : Which) (t : Top) (m : Message) (i : ℕ) where
+  pub higher-unfit : fits w m ≡ false → higherOf w t m i ≡ t
+  unfolding higherOf
+  higher-unfit e = pick-false _ t e
+
+  module _ (e : fits w m ≡ true) where
+    pub higher-first : 16 ≤ t .at → higherOf w t m i ≡ topAt m i
+    unfolding higherOf
+    higher-first f = pick-true _ t e ∙ pick-false _ (topAt m i) (le-ltb (t .at) 16 f)
+
+    pub higher-above : t .at < 16 → t .priority < m .priority → higherOf w t m i ≡ topAt m i
+    unfolding higherOf
+    higher-above f h = pick-true _ t e ∙ pick-true _ (topAt m i) (lt-ltb (t .at) 16 f) ∙ pick-true (topAt m i) t (lt-ltb (t .priority) (m .priority) h)
+
+    pub higher-kept : t .at < 16 → m .priority ≤ t .priority → higherOf w t m i ≡ t
+    unfolding higherOf
+    higher-kept f h = pick-true _ t e ∙ pick-true _ (topAt m i) (lt-ltb (t .at) 16 f) ∙ pick-false (topAt m i) t (le-ltb (t .priority) (m .priority) h)
+
+pub standing-on : (l : Messages) (i : ℕ) → i < 16 → standing l i ≡ theBest (getD (l .items) i blank)
+standing-on l i h = pick-true (theBest (getD (l .items) i blank)) noBest (lt-ltb i 16 h)
+
+pub standing-off : (l : Messages) (i : ℕ) → 16 ≤ i → standing l i ≡ noBest
+standing-off l i h = pick-false (theBest (getD (l .items) i blank)) noBest (le-ltb i 16 h)
+
+-- a turn: the message at the position is the best so far, before and after
+module _ (w : Which) (l : Messages) (t r : Top) (i : ℕ) (inside : i < 16) (p : t .priority ≡ standing l (t .at) .message .priority) where
+  abbrev m : Message
+  m = getD (l .items) i blank
+
+  abbrev b : Best
+  b = standing l (t .at)
+
+  abbrev Turned : Type 0
+  Turned = (standing l (r .at) ≡ betterOf w b m) × (r .priority ≡ standing l (r .at) .message .priority)
+
+  same-top : r ≡ t → betterOf w b m ≡ b → Turned
+  same-top e k = (
+    ap (λ (x : Top). standing l (x .at)) e ∙ sym k,
+    ap (λ (x : Top). x .priority) e ∙ p ∙ ap (λ (x : Top). standing l (x .at) .message .priority) (sym e),
+  )
+
+  new-top : r ≡ topAt m i → betterOf w b m ≡ theBest m → Turned
+  new-top e k = (
+    ap (λ (x : Top). standing l (x .at)) e ∙ standing-on l i inside ∙ sym k,
+    ap (λ (x : Top). x .priority) e ∙ ap (λ (x : Best). x .message .priority) (sym (standing-on l i inside)) ∙ ap (λ (x : Top). standing l (x .at) .message .priority) (sym e),
+  )
+
+  pub standing-turn : r ≡ higherOf w t m i → Turned
+  standing-turn e = go (fits w m) refl (ltb (t .at) 16) refl (ltb (t .priority) (m .priority)) refl
+    where
+      go : (f : Bool) → fits w m ≡ f → (s : Bool) → ltb (t .at) 16 ≡ s → (h : Bool) → ltb (t .priority) (m .priority) ≡ h → Turned
+      go false f s s-is h h-is = same-top (e ∙ higher-unfit w t m i f) (better-unfit w b m f)
+      go true f false s-is h h-is =
+          let off : 16 ≤ t .at = ltb-false (t .at) 16 s-is in
+          new-top (e ∙ higher-first w t m i f off) (better-first w b m f (ap (λ (x : Best). x .some) (standing-off l (t .at) off)))
+      go true f true s-is true h-is =
+          let on : t .at < 16 = ltb-true (t .at) 16 s-is in
+          let above : t .priority < m .priority = ltb-true (t .priority) (m .priority) h-is in
+          let above-best : b .message .priority < m .priority = omega (arith, p) in
+          new-top (e ∙ higher-above w t m i f on above) (better-higher w b m f (ap (λ (x : Best). x .some) (standing-on l (t .at) on)) above-best)
+      go true f true s-is false h-is =
+          let on : t .at < 16 = ltb-true (t .at) 16 s-is in
+          let below : m .priority ≤ t .priority = ltb-false (t .priority) (m .priority) h-is in
+          let below-best : m .priority ≤ b .message .priority = omega (arith, p) in
+          same-top (e ∙ higher-kept w t m i f on below) (better-kept w b m f (ap (λ (x : Best). x .some) (standing-on l (t .at) on)) below-best)
+
 -- ---- one part of a list
 
 pack-none : record { items = replicate 16 blank; len = 0 } ≡ pack []
@@ -279,10 +327,6 @@ unfolding splitBy chosenBy pick
 both-parts w l k g p q = ap (λ (x : Messages). let r : Parts = record { kept = x; gone = g } in r) p ∙ ap (λ (x : Messages). let r : Parts = record { kept = chosenBy w false l; gone = x } in r) q
 
 -- ---- the loop over places
-
--- a list has at most sixteen messages
-pub sixteen : (l : Messages) → length (l .items) ≡ 16 → (p : ℕ) → hasPlace (take 16 (all l)) p ≡ hasPlace (all l) p
-sixteen l h p = ap (λ (ms : List Message). hasPlace ms p) (whole-to l h 16 (used-most l .0))
 
 module _ (n p : ℕ) (ms : List Message) where
   pub turn-free : p < n → hasPlace ms p ≡ false → freeFrom (n - p) p ms ≡ p

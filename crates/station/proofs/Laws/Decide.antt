@@ -12,14 +12,14 @@ use Rattle.parts.specs.Live.{without, successor}
 use Rattle.parts.specs.Frames.{numberOf, flight, noFlight, failingOf}
 use Rattle.sent.specs.Round.{reply, startRound}
 use Rattle.sent.specs.Resend.{resend}
-use Rattle.station.specs.Stations.{stationBy, stateOf, awaitedOf, withTurn, quietTurn, quiet, sendingTurn, alone, head, answered, moved, unless}
+use Rattle.station.specs.Stations.{stationBy, stateOf, awaitedOf, withTurn, quietTurn, quiet, sendingTurn, moreTurn, alone, head, answered, moved, unless}
 use Rattle.station.specs.Sight.{sight}
 use Rattle.station.specs.Strike.{Struck}
 use Rattle.station.specs.Start.{sentFirst, started, startRule}
 use Rattle.station.specs.Heard.{Stored, checks, acknowledged, acknowledge, failed, isLast, stops, nothingMore, heardMessage, receive, stored, sendOn, handle, silent, respond, heard, frameRule}
 use Rattle.station.specs.Timer.{again, unanswered, leftAlone, goesOn, afterStrike, silence, onTimer, timerRule}
-use Rattle.station.specs.Deeds.{refused, turned, landing, leaving, liveAfter, struckBy, left, touched, received, receivedOne, carriedOut, verdict, untouched, turnAlone}
-use Rattle.station.specs.Decide.{liveWithout, competing, sightAfter, rested, landsBy, blowAt, blowOf, closed, courseOf, toStore, storesToo, quietly, replying, hearing, decided, strikesOut, goingOn, lastTimer, beginning, starting}
+use Rattle.station.specs.Deeds.{refused, turned, landing, leaving, liveAfter, struckBy, left, touched, received, receivedOne, carriedOut, verdict, untouched, turnAlone, doneBy}
+use Rattle.station.specs.Decide.{liveWithout, competing, sightAfter, rested, landsBy, blowAt, blowOf, closed, courseOf, toStore, storesToo, quietly, replying, hearing, decided, strikesOut, goingOn, lastTimer, beginning, starting, decidedStart, decidedSilence, decidedAwaiting, decidedTimer}
 use Rattle.parts.specs.declared.moves.State.the-variants.{Idle, Alone, Excluded}
 use Rattle.parts.specs.declared.moves.Event.the-variants.{Heard, Timer, Start}
 use Rattle.parts.specs.declared.list.Message.{Message}
@@ -206,13 +206,6 @@ pub turned-hears : (s : Station) (f : Frame) (from to : ℕ) → decided s f fro
 turned-hears s f from to e =
     frame-decides s f from to ∙ sym (does-nothing s (decided s f from to) (sym (decided-alone s f from to) ∙ e))
 
-module _ (s : Station) (f : Frame) (from to : ℕ) (v : Verdict) (e : v ≡ decided s f from to) where
-  pub hears-turned : v .alone ≡ true → turnAlone s v ≡ frameRule s f from to
-  hears-turned a = ap (turnAlone s) e ∙ sym (turned-hears s f from to (ap (λ (x : Verdict). x .alone) (sym e) ∙ a))
-
-  pub hears-carried : carriedOut s v ≡ frameRule s f from to
-  hears-carried = ap (carriedOut s) e ∙ sym (frame-decides s f from to)
-
 -- ---- the timer, and the start
 
 module _ (s : Station) (to : ℕ) where
@@ -259,3 +252,75 @@ start-decides s = go (eqb (s .own) 0)
         ≡ turnAlone s (pick b (beginning s (startRound (sightAfter s Nobody) 0 Nobody)) (turned (quietTurn (s .turn) Idle) Nothing))
     go true = ap (λ (v : Sight). sentFirst s (startRound v 0 Nobody)) (looks-first s)
     go false = refl
+
+-- ---- what is decided is done: over a verdict that says rightly whether it changes the turn alone
+
+-- the answer a is what v asks for
+pub record Decides (s : Station) (a : Answer) (v : Verdict) : Type 0 where
+  pub carried : a ≡ carriedOut s v
+  pub honest : v .alone ≡ untouched (v .deeds)
+
+module _ {s : Station} {a : Answer} {v : Verdict} (d : Decides s a v) where
+  pub done-alone : v .alone ≡ true → turnAlone s v ≡ a
+  done-alone e = does-nothing s v (sym (d .honest) ∙ e) ∙ sym (d .carried)
+
+  pub done-so : doneBy s v ≡ a
+  unfolding doneBy pick
+  done-so = go (v .alone) refl
+    where
+      go : (b : Bool) → v .alone ≡ b → pick b (turnAlone s v) (carriedOut s v) ≡ a
+      go true e = done-alone e
+      go false e = sym (d .carried)
+
+pub frame-so : (s : Station) (f : Frame) (from to : ℕ) → Decides s (frameRule s f from to) (decided s f from to)
+frame-so s f from to = record { carried = frame-decides s f from to; honest = decided-alone s f from to }
+
+pub start-so : (s : Station) → Decides s (startRule s) (decidedStart s)
+unfolding startRule moved decidedStart starting pick
+start-so s = go (eqb (moveOf (stateOf s) Start) runs) (eqb (s .own) 0) (start-decides s)
+  where
+    first : Bool → Verdict
+    first c = pick c (beginning s (startRound (sightAfter s Nobody) 0 Nobody)) (turned (quietTurn (s .turn) Idle) Nothing)
+
+    go : (b c : Bool) → started s ≡ turnAlone s (first c)
+        → Decides s (pick b (started s) (answered s (moveOf (stateOf s) Start))) (pick b (first c) (refused (s .turn) (moveOf (stateOf s) Start)))
+    go true true e = record { carried = e ∙ turned-alone s 0 (sendingTurn (s .turn .handled) (startRound (sightAfter s Nobody) 0 Nobody)) (startRound (sightAfter s Nobody) 0 Nobody); honest = refl }
+    go true false e = record { carried = e ∙ turned-alone s 0 (quietTurn (s .turn) Idle) Nothing; honest = refl }
+    go false c e = record { carried = nothing-done s (moveOf (stateOf s) Start); honest = refl }
+
+silence-so : (s : Station) (to : ℕ) (f : Frame) → Decides s (silence s to f) (decidedSilence s to f)
+unfolding silence decidedSilence lastTimer pick
+silence-so s to f = go (ltb (s .turn .retries) (s .limit)) (eqb (successor (without (s .live) to) (s .n) (s .own)) (s .own)) (times-last s to f)
+  where
+    last : Bool → Verdict
+    last c = pick c (strikesOut s to (quietTurn (s .turn) Alone) Nothing) (goingOn s to (resend (sightAfter s (Member to)) to f))
+
+    go : (b c : Bool) → afterStrike (unanswered s to) to f ≡ carriedOut s (last c)
+        → Decides s (pick b (again s) (afterStrike (unanswered s to) to f)) (pick b (turned (moreTurn (s .turn)) (awaitedOf s)) (last c))
+    go true c e = record { carried = turned-alone s 0 (moreTurn (s .turn)) (awaitedOf s); honest = refl }
+    go false true e = record { carried = e; honest = refl }
+    go false false e = record { carried = e; honest = refl }
+
+awaiting-so : (s : Station) (d : Dispatch) → Decides s (onTimer s d) (decidedAwaiting s d)
+unfolding onTimer decidedAwaiting
+awaiting-so s Nothing = record { carried = nothing-done s 0; honest = refl }
+awaiting-so s (Sent f to) = silence-so s to f
+
+pub timer-so : (s : Station) → Decides s (timerRule s) (decidedTimer s)
+unfolding timerRule moved decidedTimer pick
+timer-so s = go (eqb (moveOf (stateOf s) Timer) runs)
+  where
+    go : (b : Bool)
+        → Decides s (pick b (onTimer s (awaitedOf s)) (answered s (moveOf (stateOf s) Timer)))
+        (pick b (decidedAwaiting s (awaitedOf s)) (refused (s .turn) (moveOf (stateOf s) Timer)))
+    go true = awaiting-so s (awaitedOf s)
+    go false = record { carried = nothing-done s (moveOf (stateOf s) Timer); honest = refl }
+
+pub frame-done : (s : Station) (f : Frame) (from to : ℕ) → doneBy s (decided s f from to) ≡ frameRule s f from to
+frame-done s f from to = done-so (frame-so s f from to)
+
+pub start-done : (s : Station) → doneBy s (decidedStart s) ≡ startRule s
+start-done s = done-so (start-so s)
+
+pub timer-done : (s : Station) → doneBy s (decidedTimer s) ≡ timerRule s
+timer-done s = done-so (timer-so s)

@@ -6,7 +6,7 @@ use native.Mathlib.Omega.{arith}
 use lib.Dec.{eqb, leb}
 use borrow.Author.Tests.{eq-eqb, ne-eqb, eqb-true, eqb-false}
 use Rattle.parts.specs.Choose.{pick}
-use Rattle.parts.specs.Messages.{none, pushed, splitBy, best, flies, fits}
+use Rattle.parts.specs.Messages.{none, pushed, splitBy, chosenBy, best, flies, fits}
 use Rattle.parts.specs.Live.{without, successor}
 use Rattle.parts.specs.Frames.{flight, noFlight}
 use Rattle.parts.specs.Live.{newly}
@@ -14,7 +14,7 @@ use Rattle.station.specs.Stations.{stationBy, withTurn, withSends, withL
 use Rattle.station.specs.Sight.{sight}
 use Rattle.station.specs.Strike.{Loss, Struck, strike, nothingGone, giveUpTo, leave, giveUpAt, giveUpFlight, told, stopped}
 use Rattle.station.specs.Heard.{Stored, acknowledged, landed, acknowledge, strikeOther, strikeHeard, failed, receive}
-use Rattle.station.specs.Deeds.{noDeeds, landing, alsoAt, alsoFlight, allStay, leaving, liveAfter, struckBy, left, touched, receivedOne, received, carriedOut, verdict, untouched, spares, storesNone, turnAlone}
+use Rattle.station.specs.Deeds.{noDeeds, landing, alsoAt, alsoFlight, allStay, waitersLeave, flightLeaves, leaving, liveAfter, struckBy, left, touched, receivedOne, received, carriedOut, verdict, untouched, spares, storesNone, turnAlone}
 use Rattle.station.specs.Decide.{liveWithout, competing, sightAfter, rested, landsBy, blowAt, blowOf, closed}
 use Rattle.parts.specs.declared.moves.State.{State}
 use Rattle.parts.specs.declared.moves.State.the-variants.{Idle, Alone, Excluded}
@@ -39,6 +39,7 @@ use Rattle.station.specs.declared.rules.deeds.Verdict.{Verdict}
 use Rattle.station.specs.declared.rules.deeds.Received.{Received}
 use Rattle.parts.proofs.Laws.Choose.{pick-true, pick-false}
 use Rattle.parts.proofs.Laws.Best.{best-alike, best-of-kept, best-none-gone}
+use Rattle.parts.proofs.Laws.Messages.{both-parts}
 use Rattle.station.proofs.Laws.Stations.{add-inside}
 
 -- ---- messages given up: the page's steps over stations are those over lists
@@ -252,3 +253,16 @@ does-nothing s v = go (v .deeds .lands .on) (v .deeds .blow) (v .deeds .stores)
 
 pub turned-alone : (s : Station) (number : ℕ) (t : Turn) (d : Dispatch) → turnAlone s (verdict number t d noDeeds) ≡ carriedOut s (verdict number t d noDeeds)
 turned-alone s number t d = does-nothing s (verdict number t d noDeeds) nothing-touched
+
+-- ---- who is given up: the waiting ones, then the one in flight
+
+pub leaves-so : (b : Blow) (f : Flight) (l : Messages) → alsoFlight (waitersLeave b f l) (flightLeaves b f) ≡ leaving b f l
+unfolding waitersLeave flightLeaves leaving alsoFlight pick
+leaves-so blow.Spares f l = refl
+leaves-so (blow.Another p) f l = refl
+leaves-so (blow.Last p) f l = refl
+leaves-so (blow.Itself p) f l = refl
+
+-- one part alone
+pub kept-alone : (w : Which) (l k : Messages) → k ≡ chosenBy w false l → k ≡ splitBy w l .kept
+kept-alone w l k e = e ∙ ap (λ (d : Parts). d .kept) (both-parts w l (chosenBy w false l) (chosenBy w true l) refl refl)

@@ -7,6 +7,8 @@ ghost use Rattle.station.specs.Deeds.{
   landing,
   alsoAt,
   alsoFlight,
+  waitersLeave,
+  flightLeaves,
   leaving,
   liveAfter,
   struckBy,
@@ -17,6 +19,7 @@ ghost use Rattle.station.specs.Deeds.{
   untouched,
   turnAlone,
   carriedOut,
+  doneBy,
 };
 use crate::station::Answer;
 use crate::station::Counts;
@@ -150,8 +153,7 @@ pub fn land(l: Messages, f: Flight) -> Messages
 {
     if f.on {
         let w = Which::HasPlace(f.place);
-        let d = parts::list::split(l, w);
-        return d.kept;
+        return parts::list::chosen(l, w, false);
     }
     l
 }
@@ -163,8 +165,7 @@ pub fn also_at(d: Parts, place: u8) -> Parts
     let w = Which::HasPlace(place);
     let b = parts::list::choose(d.kept, w);
     if b.some {
-        let e = parts::list::split(d.kept, w);
-        let kept = e.kept;
+        let kept = parts::list::chosen(d.kept, w, false);
         let gone = parts::list::push(d.gone, b.message);
         return Parts { kept, gone };
     }
@@ -187,9 +188,9 @@ pub fn all_stay(l: Messages) -> Parts
     Parts { kept: l, gone }
 }
 
-// Who is given up with a station that is struck, in order.
-pub fn give_up(l: Messages, f: Flight, blow: Blow) -> Parts
-    ensures { λ r. ⌜ r ≡ leaving blow f l ⌝ }
+// The waiting messages to a station that is struck.
+pub fn waiters_leave(l: Messages, f: Flight, blow: Blow) -> Parts
+    ensures { λ r. ⌜ r ≡ waitersLeave blow f l ⌝ }
 {
     match blow {
         Blow::Spares => all_stay(l),
@@ -199,14 +200,37 @@ pub fn give_up(l: Messages, f: Flight, blow: Blow) -> Parts
         }
         Blow::Last(p) => {
             let w = Which::WaitingFor(f, p);
-            let d = parts::list::split(l, w);
-            also_flight(d, f)
+            parts::list::split(l, w)
         }
-        Blow::Itself(_) => {
-            let d = all_stay(l);
-            also_flight(d, f)
-        }
+        Blow::Itself(_) => all_stay(l),
     }
+}
+
+// The one in flight, where it is given up too.
+pub fn flight_leaves(f: Flight, blow: Blow) -> Flight
+    ensures { λ r. ⌜ r ≡ flightLeaves blow f ⌝ }
+{
+    match blow {
+        Blow::Spares => Flight {
+            on: false,
+            place: 0,
+        },
+        Blow::Another(_) => Flight {
+            on: false,
+            place: 0,
+        },
+        Blow::Last(_) => f,
+        Blow::Itself(_) => f,
+    }
+}
+
+// Who is given up with a station that is struck, in order.
+pub fn give_up(l: Messages, f: Flight, blow: Blow) -> Parts
+    ensures { λ r. ⌜ r ≡ leaving blow f l ⌝ }
+{
+    let d = waiters_leave(l, f, blow);
+    let g = flight_leaves(f, blow);
+    also_flight(d, g)
 }
 
 // Who leaves: the acknowledged message, then those given up.
@@ -348,5 +372,17 @@ pub fn carried_out(s: Station, v: Verdict) -> Answer
         struck,
         gone,
         payload,
+    }
+}
+
+impl Station {
+    // What was decided is done, and the station handed back.
+    pub fn done(self, v: Verdict) -> Answer
+        ensures { λ r. ⌜ r ≡ doneBy self v ⌝ }
+    {
+        if v.alone {
+            return turn_alone(self, v);
+        }
+        carried_out(self, v)
     }
 }

@@ -267,9 +267,6 @@ impl Station {
         ensures { λ r. ⌜ r ≡ frameRule self f from to ⌝ }
     {
         let v = self.decide(f, from, to);
-        if v.alone {
-            return crate::rules::deeds::turn_alone(self, v);
-        }
-        crate::rules::deeds::carried_out(self, v)
+        self.done(v)
     }
 }

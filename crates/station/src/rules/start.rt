@@ -1,6 +1,6 @@
 // Start.
 ghost use mathlib.Core.Path.{_≡_};
-ghost use Rattle.station.specs.Decide.{starting};
+ghost use Rattle.station.specs.Decide.{starting, decidedStart};
 ghost use Rattle.station.specs.Start.{startRule};
 use crate::rules::deeds::Verdict;
 use crate::station::Answer;
@@ -26,17 +26,24 @@ pub fn starting(s: Station) -> Verdict
 }
 
 impl Station {
-    // The station starts.
-    pub fn start(self) -> Answer
-        ensures { λ r. ⌜ r ≡ startRule self ⌝ }
+    // What starting asks for.
+    pub fn decide_start(self) -> Verdict
+        ensures { λ r. ⌜ r ≡ decidedStart self ⌝ }
     {
         let turn = self.turn;
         let state = turn.state;
         let m = parts::moves::move_of(state, Event::Start);
         if m != parts::moves::RUN {
-            return crate::station::answered(self, m);
+            return crate::rules::deeds::refuse(turn, m);
         }
-        let v = starting(self);
-        crate::rules::deeds::turn_alone(self, v)
+        starting(self)
+    }
+
+    // The station starts.
+    pub fn start(self) -> Answer
+        ensures { λ r. ⌜ r ≡ startRule self ⌝ }
+    {
+        let v = self.decide_start();
+        self.done(v)
     }
 }

@@ -22,8 +22,8 @@ pub fn taking(s: Station, m: Message) -> Answer
     ensures { λ r. ⌜ r ≡ taking s m ⌝ }
 {
     let w = Which::HasPlace(m.place);
-    let d = parts::list::split(s.receives, w);
-    let station = crate::station::with_receives(s, d.kept);
+    let kept = parts::list::chosen(s.receives, w, false);
+    let station = crate::station::with_receives(s, kept);
     let gone = parts::list::empty();
     Answer {
         station,

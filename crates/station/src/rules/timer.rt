@@ -1,7 +1,7 @@
 // The timer of a Waiting station.
 ghost use mathlib.Core.Path.{_≡_};
-ghost use Rattle.station.specs.Decide.{strikesOut, goingOn, lastTimer};
-ghost use Rattle.station.specs.Timer.{silence, timerRule};
+ghost use Rattle.station.specs.Decide.{strikesOut, goingOn, lastTimer, decidedSilence, decidedTimer};
+ghost use Rattle.station.specs.Timer.{timerRule};
 use crate::rules::deeds::Blow;
 use crate::rules::deeds::Deeds;
 use crate::rules::deeds::Verdict;
@@ -55,36 +55,42 @@ pub fn last_timer(s: Station, to: u8, f: Frame) -> Verdict
     going_on(s, to, d)
 }
 
+// What the timer of a frame to `to` asks for: below the limit the same frame goes again.
+pub fn silence(s: Station, to: u8, f: Frame) -> Verdict
+    ensures { λ r. ⌜ r ≡ decidedSilence s to f ⌝ }
+{
+    let t = s.turn;
+    if t.retries < s.limit {
+        let turn = crate::station::more_turn(t);
+        let sent = t.awaited;
+        return crate::rules::deeds::turn_to(turn, sent);
+    }
+    last_timer(s, to, f)
+}
+
 impl Station {
-    // The timer of a frame to `to` runs.
-    pub fn silence(self, to: u8, f: Frame) -> Answer
-        ensures { λ r. ⌜ r ≡ silence self to f ⌝ }
+    // What the timer asks for.
+    pub fn decide_timer(self) -> Verdict
+        ensures { λ r. ⌜ r ≡ decidedTimer self ⌝ }
     {
-        let t = self.turn;
-        if t.retries < self.limit {
-            let turn = crate::station::more_turn(t);
-            let sent = t.awaited;
-            let v = crate::rules::deeds::turn_to(turn, sent);
-            return crate::rules::deeds::turn_alone(self, v);
+        let turn = self.turn;
+        let state = turn.state;
+        let m = parts::moves::move_of(state, Event::Timer);
+        if m != parts::moves::RUN {
+            return crate::rules::deeds::refuse(turn, m);
         }
-        let v = last_timer(self, to, f);
-        crate::rules::deeds::carried_out(self, v)
+        let awaited = turn.awaited;
+        match awaited {
+            Dispatch::Nothing => crate::rules::deeds::refuse(turn, 0),
+            Dispatch::Sent { frame, to } => silence(self, to, frame),
+        }
     }
 
     // The timer runs.
     pub fn timer(self) -> Answer
         ensures { λ r. ⌜ r ≡ timerRule self ⌝ }
     {
-        let turn = self.turn;
-        let state = turn.state;
-        let m = parts::moves::move_of(state, Event::Timer);
-        if m != parts::moves::RUN {
-            return crate::station::answered(self, m);
-        }
-        let awaited = turn.awaited;
-        match awaited {
-            Dispatch::Nothing => crate::station::answered(self, 0),
-            Dispatch::Sent { frame, to } => self.silence(to, frame),
-        }
+        let v = self.decide_timer();
+        self.done(v)
     }
 }

@@ -5,15 +5,12 @@ use mathlib.Core.List.{List, [], _∷_, _++_}
 use Prim.Native.Nat.{ℕ, zero, suc, _+_, _≤_, _<_}
 use native.Mathlib.Numerals.{add-one}
 use lib.ListN.{getD, set, drop, length, replicate, drop-of-length-le}
-use lib.Seq.{drop-cons, getD-set-same, getD-set-other}
-use lib.Dec.{eqb}
-use borrow.Author.Tests.{eqb-true, eqb-false}
+use lib.Seq.{drop-cons}
 use Rattle.parts.specs.Choose.{pick, allOf, every}
 use Rattle.parts.specs.Messages.{hasPlace}
 use Rattle.wholeness.specs.Whole.{seatGood, seatsGood, apart}
 use Rattle.parts.specs.declared.list.Message.{Message}
 use Rattle.parts.specs.declared.moves.State.{State}
-use Rattle.parts.proofs.Laws.Messages.{place-none, place-here, place-later}
 
 -- ---- tests in a row
 
@@ -65,58 +62,6 @@ pub apart-more : (b b′ l r : List Message) (m : Message) → l ≡ m ∷ r →
     → apart b l ≡ apart b′ r
 unfolding apart pick
 apart-more b b′ l r m e f h = rw (e, f, h)
-
--- ---- a flag for each place
-
-module _ (m : Message) (p : ℕ) where
-  pub place-last : (ms : List Message) → m .place ≡ p → hasPlace (ms ++ m ∷ []) p ≡ true
-  unfolding hasPlace pick
-  place-last [] e = place-here m [] p e
-  place-last (x ∷ ms) e = ap (pick (eqb (x .place) p) true) (place-last ms e) ∙ either (eqb (x .place) p)
-    where
-      either : (b : Bool) → pick b true true ≡ true
-      either true = refl
-      either false = refl
-
-  pub place-before : (ms : List Message) → (m .place ≡ p → ⊥) → hasPlace (ms ++ m ∷ []) p ≡ hasPlace ms p
-  unfolding hasPlace
-  place-before [] n = place-later m [] p n
-  place-before (x ∷ ms) n = ap (pick (eqb (x .place) p) true) (place-before ms n)
-
--- the flags are those of the places of the messages
-unfoldable pub Marked : List Bool → List Message → Type 0
-Marked flags ms = (p : ℕ) → getD flags p false ≡ hasPlace ms p
-
-pub marked-at : (flags : List Bool) (ms : List Message) → Marked flags ms → (p : ℕ) → getD flags p false ≡ hasPlace ms p
-unfolding Marked
-marked-at flags ms h = h
-
-unset : (n p : ℕ) → getD (replicate n false) p false ≡ false
-unset zero p = refl
-unset (suc n) zero = refl
-unset (suc n) (suc p) = unset n p
-
-pub marked-none : (n : ℕ) → Marked (replicate n false) []
-unfolding Marked
-marked-none n = λ p. unset n p ∙ sym (place-none p)
-
-pub marked-more : (flags : List Bool) (ms ns : List Message) (m : Message) → ns ≡ ms ++ m ∷ [] → m .place < length flags → Marked flags ms
-    → Marked (set flags (m .place) true) ns
-unfolding Marked
-marked-more flags ms ns m e h k = λ p. go p (eqb (m .place) p) refl
-  where
-    go : (p : ℕ) (b : Bool) → eqb (m .place) p ≡ b → getD (set flags (m .place) true) p false ≡ hasPlace ns p
-    go p true q =
-        let s : m .place ≡ p = eqb-true (m .place) p q in
-        ap (λ (j : ℕ). getD (set flags (m .place) true) j false) (sym s)
-        ∙ getD-set-same flags (m .place) true false h
-        ∙ sym (place-last m p ms s)
-        ∙ ap (λ (l : List Message). hasPlace l p) (sym e)
-    go p false q =
-        getD-set-other flags (m .place) p true false (λ s. eqb-false (m .place) p q (sym s))
-        ∙ k p
-        ∙ sym (place-before m p ms (eqb-false (m .place) p q))
-        ∙ ap (λ (l : List Message). hasPlace l p) (sym e)
 
 -- ---- seats
 

@@ -5,7 +5,7 @@ use native.Mathlib.Omega.{arith}
 use lib.ListN.{length}
 use Rattle.records.proofs.Laws.Load.{Held, none-held, opened-held}
 use Rattle.driver_calls.specs.Calls.{badBuffers}
-use Rattle.driver_calls.proofs.Laws.Calls.{few-held, information-short, good-buffers, refused-9, refused-35}
+use Rattle.driver_calls.proofs.Laws.Calls.{holds, few-held, information-short, good-buffers, refused-9, refused-35}
 use Rattle.driver_calls.proofs.Laws.Hearing.{not-heard, heard-refused, heard-done}
 use borrow.Author.Needs.{needs}
 use Rattle.driver_calls.proofs.hearing.frame.Statement.{statement}
@@ -47,8 +47,8 @@ slice-aggregate-members c = search needs
 members-requires : tie.Need-members-requires
 members-requires c κs = search needs
 
-packet-rule-requires : tie.Need-packet-rule-requires
-packet-rule-requires c κs = few-held (held-at (c .before .before .before)) _ (c .members .ensures)
+decide-call-requires : tie.Need-decide-call-requires
+decide-call-requires c κs = few-held (held-at (c .before .before .before)) _ (c .members .ensures)
 
 same-length-2 : tie.Need-same-length-2
 same-length-2 c = search needs
@@ -56,7 +56,7 @@ same-length-2 c = search needs
 returns-3 : tie.Need-returns-3
 returns-3 c =
     let e = c .before .before .before .before .before .before in
-    heard-refused _ (good-buffers-at (e .before .before .before .before .before .before)) (held-at e) (c .before .before .before .members .ensures) (c .before .before .packet-rule .ensures) (c .if3 .taken)
+    heard-refused _ (good-buffers-at (e .before .before .before .before .before .before)) (held-at e) (c .before .before .before .members .ensures) (c .before .before .decide-call .ensures) (c .if3 .taken)
 
 slice-aggregate-members-2 : tie.Need-slice-aggregate-members-2
 slice-aggregate-members-2 c = slice-aggregate-members (c .before .before .before .before .before .before .before .before)
@@ -70,8 +70,7 @@ information-of-requires c κs = search needs
 settle-requires : tie.Need-settle-requires
 settle-requires c κs =
     let e = c .before .before .before .before .before .before .before .before .before .before .before .before .before in
-    let h = held-at e .sized in
-    (omega (arith, h), (good-buffers _ _ (good-buffers-at (e .before .before .before .before .before .before)) .1, information-short _ _ _ (c .information-of .ensures)))
+    (holds (held-at e), (good-buffers _ _ (good-buffers-at (e .before .before .before .before .before .before)) .1, information-short _ _ _ (c .information-of .ensures)))
 
 heard-information-requires : tie.Need-heard-information-requires
 heard-information-requires c κs = search needs
@@ -91,7 +90,7 @@ same-length-5 c = search needs
 returns-4 : tie.Need-returns-4
 returns-4 c =
     let e = c .before .before .before .before .before .before .before .before .before .before .before .before .before .before .before .before .before .before .before .before .before .before .before in
-    heard-done _ (good-buffers-at (e .before .before .before .before .before .before)) (held-at e) (c .before .before .before .before .before .before .before .before .before .before .before .before .before .before .before .before .before .before .before .before .members .ensures) (c .before .before .before .before .before .before .before .before .before .before .before .before .before .before .before .before .before .before .before .packet-rule .ensures) (c .before .before .before .before .before .before .before .before .before .before .before .before .before .before .before .before .before .if3 .left) _ _ _ _ _ _ _
+    heard-done _ (good-buffers-at (e .before .before .before .before .before .before)) (held-at e) (c .before .before .before .before .before .before .before .before .before .before .before .before .before .before .before .before .before .before .before .before .members .ensures) (c .before .before .before .before .before .before .before .before .before .before .before .before .before .before .before .before .before .before .before .decide-call .ensures) (c .before .before .before .before .before .before .before .before .before .before .before .before .before .before .before .before .before .if3 .left) _ _ _ _ _ _ _ _
     (c .before .before .before .before .before .before .before .before .before .before .before .before .members2 .ensures)
     (c .before .before .before .before .before .before .before .before .before .before .information-of .ensures)
     (c .before .before .before .before .before .before .before .before .before .settle .ensures)
@@ -112,7 +111,7 @@ frame-spec =
     cast-n
     slice-aggregate-members
     members-requires
-    packet-rule-requires
+    decide-call-requires
     same-length-2
     returns-3
     slice-aggregate-members-2

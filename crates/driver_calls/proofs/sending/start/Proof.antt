@@ -7,9 +7,11 @@ use native.Mathlib.Omega.{arith}
 use borrow.Author.Tests.{lt-ltb, le-ltb}
 use lib.ListN.{length}
 use Rattle.station.specs.Start.{startRule}
+use Rattle.station.specs.Decide.{decidedStart}
+use Rattle.station.proofs.Laws.Decide.{start-so}
 use Rattle.records.proofs.Laws.Load.{Held, none-held, opened-held}
 use Rattle.driver_calls.specs.Calls.{badOut}
-use Rattle.driver_calls.proofs.Laws.Calls.{refused-9, refused-35, not-sent, station-refuses, station-sends}
+use Rattle.driver_calls.proofs.Laws.Calls.{few-held, refused-9, refused-35, not-sent, holds, station-refuses, station-sends}
 use borrow.Author.Needs.{needs}
 use Rattle.driver_calls.proofs.sending.start.Statement.{statement}
 use Rattle.driver_calls.proofs.sending.start.Tie as tie
@@ -41,31 +43,39 @@ same-length c = search needs
 returns-2 : tie.Need-returns-2
 returns-2 c = not-sent (refused-35 (good-buffers-at (c .before .before .before .before .before .before)) (none-held (c .before .before .before .open .ensures) (c .before .whole .ensures) (c .if2 .taken)))
 
-start-requires : tie.Need-start-requires
-start-requires c κs = search needs
-
-same-length-2 : tie.Need-same-length-2
-same-length-2 c = search needs
-
-returns-3 : tie.Need-returns-3
-returns-3 c =
-    let e = c .before .before .before .before in
-    station-refuses startRule (λ d. []) (good-buffers-at (e .before .before .before .before .before .before)) (held-at e) _ (c .before .before .start .ensures) (c .if3 .taken)
-
 slice-aggregate-members : tie.Need-slice-aggregate-members
 slice-aggregate-members c = search needs
 
 members-requires : tie.Need-members-requires
 members-requires c κs = search needs
 
+slice-aggregate-decide-call : tie.Need-slice-aggregate-decide-call
+slice-aggregate-decide-call c = search needs
+
+decide-call-requires : tie.Need-decide-call-requires
+decide-call-requires c κs = few-held (held-at (c .before .before .before .before)) _ (c .before .members .ensures)
+
+same-length-2 : tie.Need-same-length-2
+same-length-2 c = search needs
+
+returns-3 : tie.Need-returns-3
+returns-3 c =
+    let e = c .before .before .before .before .before .before .before in
+    station-refuses startRule decidedStart start-so (λ d. []) (good-buffers-at (e .before .before .before .before .before .before)) (held-at e) _ (c .before .before .decide-call .ensures) (c .if3 .taken)
+
+slice-aggregate-members-2 : tie.Need-slice-aggregate-members-2
+slice-aggregate-members-2 c = slice-aggregate-members (c .before .before .before .before .before .before .before .before .before)
+
+members-requires-2 : tie.Need-members-requires-2
+members-requires-2 c κs = search needs
+
 slice-aggregate-settle : tie.Need-slice-aggregate-settle
 slice-aggregate-settle c = search needs
 
 settle-requires : tie.Need-settle-requires
 settle-requires c κs =
-    let e = c .before .before .before .before .before .before .before .before .before .before in
-    let h = held-at e .sized in
-    (omega (arith, h), (e .before .before .before .before .before .before .if1 .left, zero-le))
+    let e = c .before .before .before .before .before .before .before .before .before .before .before .before .before in
+    (holds (held-at e), (e .before .before .before .before .before .before .if1 .left, zero-le))
 
 same-length-3 : tie.Need-same-length-3
 same-length-3 c = search needs
@@ -75,9 +85,9 @@ same-length-4 c = search needs
 
 returns-4 : tie.Need-returns-4
 returns-4 c =
-    let e = c .before .before .before .before .before .before .before .before .before .before .before .before .before .before .before in
-    station-sends startRule (λ d. []) (good-buffers-at (e .before .before .before .before .before .before)) (held-at e) _ (c .before .before .before .before .before .before .before .before .before .before .before .before .before .start .ensures) (c .before .before .before .before .before .before .before .before .before .before .before .if3 .left) _ [] _ _ _ (c .before .before .before .before .before .before .members .ensures) refl
-    (c .before .before .before .before .settle .ensures)
+    let e = c .before .before .before .before .before .before .before .before .before .before .before .before .before .before .before .before .before .before in
+    station-sends startRule decidedStart start-so (λ d. []) (good-buffers-at (e .before .before .before .before .before .before)) (held-at e) _ (c .before .before .before .before .before .before .before .before .before .before .before .before .before .decide-call .ensures) (c .before .before .before .before .before .before .before .before .before .before .before .if3 .left) _ [] _ _ _ (c .before .before .before .before .before .before .members2 .ensures) refl
+    (c .before .before .before .before .settle .ensures .1)
 
 pub start-spec : {M : Type 1} → statement M
 start-spec =
@@ -90,11 +100,14 @@ start-spec =
     same-length
     returns-2
     cast-n
-    start-requires
-    same-length-2
-    returns-3
     slice-aggregate-members
     members-requires
+    slice-aggregate-decide-call
+    decide-call-requires
+    same-length-2
+    returns-3
+    slice-aggregate-members-2
+    members-requires-2
     slice-aggregate-settle
     settle-requires
     same-length-3

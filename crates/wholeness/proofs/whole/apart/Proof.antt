@@ -7,10 +7,11 @@ use Prim.Native.Nat.{_-_, _≤_}
 use native.Mathlib.Omega.{arith}
 use lib.ListN.{length, take, drop, length-set}
 use borrow.Author.Needs.{needs}
-use Rattle.parts.specs.Messages.{all}
+use Rattle.parts.specs.Messages.{all, Marked}
 use Rattle.wholeness.specs.Whole.{apart}
 use Rattle.parts.proofs.Laws.Messages.{length-mapped, used-most, all-from, all-to, none-from}
-use Rattle.wholeness.proofs.Laws.Whole.{apart-none, apart-here, apart-more, Marked, marked-at, marked-none, marked-more}
+use Rattle.parts.proofs.Laws.Places.{marked-at, marked-none, marked-more}
+use Rattle.wholeness.proofs.Laws.Whole.{apart-none, apart-here, apart-more}
 use Rattle.wholeness.proofs.whole.apart.Statement.{statement}
 use Rattle.wholeness.proofs.whole.apart.Tie as tie
 
