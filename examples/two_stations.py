@@ -10,9 +10,10 @@ import os
 import sys
 from ctypes import CDLL, POINTER, Structure, byref, c_char_p, c_size_t, c_uint32, c_uint64, create_string_buffer, sizeof
 
-LAYOUT = 1
+LAYOUT = 2
 SIZES = ["rtep_record_size", "rtep_store_size", "rtep_place_size", "rtep_out_size", "rtep_told_size", "rtep_taken_size", "rtep_state_at"]
 DONE, IDLE, WAITING = 0, 1, 2
+BAD_PACKET = 12
 ADDRESSES = [0x020000000010, 0x020000000011]
 RETRY_LIMIT = 3
 
@@ -58,7 +59,7 @@ def lent(buffer):
 
 
 class Station:
-    """One station with its memory. A call that is refused raises its number."""
+    """One station with its memory. A call that is refused raises its number, and the offset beside it."""
 
     def __init__(self, library, file, own):
         self.library, self.own, self.told = library, own, Told()
@@ -68,7 +69,11 @@ class Station:
         self.done(library.rtep_make(*lent(self.record), *lent(file), own))
 
     @staticmethod
-    def done(number):
+    def done(given):
+        """The number is in the lower 16 bits, and where a packet is bad its offset in the upper."""
+        number, offset = given & 0xFFFF, given >> 16
+        if number == BAD_PACKET:
+            raise ValueError(f"refused with {number} at octet {offset}")
         if number != DONE:
             raise ValueError(f"refused with {number}")
 
@@ -125,6 +130,12 @@ def main(path):
         first.take(3)
     except ValueError as refused:
         print(f"0 takes nothing more: {refused}")
+    to, packet = frame
+    damaged = packet[:-1] + b"\x01"
+    try:
+        stations[ADDRESSES.index(to)].hear(sender.own, to, damaged)
+    except ValueError as refused:
+        print(f"a frame with a pad octet that is not zero: {refused}")
 
 
 if __name__ == "__main__":

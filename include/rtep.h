@@ -1,10 +1,11 @@
 /*
  * RT-EP: one station, its packets and its ring file, for a driver in C or C++. Link with librtep.a.
  *
- * Every call takes any input, ends, and returns a number of docs/RULES.md: 0 is done, and any other number changes
- * and sends nothing, in none of the buffers. The memory is the caller's duty: each pointer leads to as many elements
- * as its length or its type says and is not null, even where the length is 0; buffers that are lent to one call do
- * not overlap. A call keeps no pointer and nothing outside its buffers.
+ * Every call takes any input, ends, and returns a number of docs/RULES.md, beside which rtep_read and rtep_frame give an
+ * offset (RTEP_NUMBER, RTEP_OFFSET): 0 is done, and any other number changes and sends nothing, in none of the buffers.
+ * The memory is the caller's duty: each pointer leads to as many elements as its length or its type says and is not
+ * null, even where the length is 0; buffers that are lent to one call do not overlap. A call keeps no pointer and
+ * nothing outside its buffers.
  *
  * Addresses are 48-bit numbers in 64 bits: the first octet on the wire is the highest. docs/DRIVER.md tells which
  * call to make when, and the layout of record and store.
@@ -21,8 +22,8 @@ extern "C" {
 #endif
 
 /* The layout that this header describes. It is another number where a record, a store, a struct below or what a call
- * takes is another; so a driver asks first of all whether rtep_layout() gives it. */
-#define RTEP_LAYOUT 1
+ * takes or gives back is another; so a driver asks first of all whether rtep_layout() gives it. */
+#define RTEP_LAYOUT 2
 
 /* Sizes in octets. */
 #define RTEP_RECORD 671     /* a station record, exactly */
@@ -139,9 +140,17 @@ enum rtep_number {
     RTEP_REFUSED_WIRE_FULL = 36         /* rtep_replay: a timer record with 64 frames on the wire */
 };
 
-static inline const char *rtep_reason(uint32_t number)
+/* What rtep_read and rtep_frame give back is a number in its lower 16 bits and an offset in its upper: 12 has the place in the
+ * packet where it is bad, which is that of the first octet of its first bad field in wire order; else of its first pad octet
+ * that is not zero; else, where only its length disagrees, 6 for information and 0 for a short packet. Beside any other
+ * number the offset is 0. So compare RTEP_NUMBER of what they give, and never itself, with anything but RTEP_DONE. */
+#define RTEP_NUMBER(given) ((uint32_t)(given) & 0xFFFFu)
+#define RTEP_OFFSET(given) ((uint32_t)(given) >> 16)
+
+/* The text for a number, with or without an offset beside it. */
+static inline const char *rtep_reason(uint32_t given)
 {
-    switch (number) {
+    switch (RTEP_NUMBER(given)) {
     case RTEP_DONE: return "done";
     case RTEP_REFUSED_FILE_LENGTH: return "the ring file's length is not 2 + 6 N octets";
     case RTEP_REFUSED_FILE_FORM: return "the ring file's form number is not 1";
@@ -252,7 +261,7 @@ uint32_t rtep_start(uint8_t *record, size_t record_len, uint8_t *out, size_t out
 /* A frame was heard, whoever it is addressed to: its two addresses, and the data field as packet.
  * Leaves the packet to send, if any, at the start of out, what it tells in told, and the payload of a message
  * that was received in the store.
- * Refuses, in this order, with 9 (store_len, out_len), 35, 22, 13, 10, 11, 12. */
+ * Refuses, in this order, with 9 (store_len, out_len), 35, 22, 13, 10, 11, 12 and its offset: RTEP_NUMBER, RTEP_OFFSET. */
 uint32_t rtep_frame(uint8_t *record, size_t record_len, uint8_t *store, size_t store_len,
                     uint64_t from, uint64_t to, const uint8_t *packet, size_t packet_len,
                     uint8_t *out, size_t out_len, struct rtep_told *told);
@@ -281,11 +290,11 @@ uint32_t rtep_take(uint8_t *record, size_t record_len, const uint8_t *store, siz
 uint32_t rtep_ring(const uint8_t *file, size_t file_len, struct rtep_ring *ring);
 
 /* Reads a packet against the addresses of a ring's members. The information is told->length octets from packet[8] on.
- * Refuses, in this order, with 10, 11, 12. */
+ * Refuses, in this order, with 10, 11, 12 and its offset: RTEP_NUMBER, RTEP_OFFSET. */
 uint32_t rtep_read(const uint64_t *addresses, size_t members, const uint8_t *packet, size_t packet_len,
                    struct rtep_packet *told);
 
-/* Writes a packet and its information to the start of out. Refuses, in this order, with 9 (out_len), 12. */
+/* Writes a packet and its information to the start of out. Refuses, in this order, with 9 (out_len), 12; without an offset. */
 uint32_t rtep_write(const uint64_t *addresses, size_t members, const struct rtep_packet *packet,
                     const uint8_t *information, size_t information_len,
                     uint8_t *out, size_t out_len, struct rtep_written *written);

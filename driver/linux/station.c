@@ -166,11 +166,18 @@ static void act(void)
     take_all();
 }
 
-/* Refused frames are dropped: damaged, or not of this ring's live stations, or this station is out. */
-static void done_or_dropped(const char *call, uint32_t number)
+/* Refused frames are dropped: damaged, or not of this ring's live stations, or this station is out. Of those that are no
+ * packets it is said why, and where a field, a pad octet or the length is bad. */
+static void done_or_dropped(const char *call, uint32_t given)
 {
+    uint32_t number = RTEP_NUMBER(given);
     if (number == RTEP_DONE) act();
     else if (number == RTEP_REFUSED_BUFFER || number == RTEP_REFUSED_NOT_WHOLE) fail(1, "%s gave %" PRIu32, call, number);
+    else if (number == RTEP_REFUSED_FIELD)
+        fprintf(stderr, "station: %s refused (%" PRIu32 " at octet %" PRIu32 "), %s\n", call, number, RTEP_OFFSET(given),
+                rtep_reason(given));
+    else if (number == RTEP_REFUSED_PACKET_SIZE || number == RTEP_REFUSED_IDENTIFIER)
+        fprintf(stderr, "station: %s refused (%" PRIu32 "), %s\n", call, number, rtep_reason(given));
 }
 
 /* Hears what has come, but not for ever where frames come without end: the ring waits for a station that does not

@@ -1,6 +1,6 @@
 /*
  * Writes frames as a capture file, and for each frame a line with what the codec reads: the number, and where that is 0
- * the packet's eight numbers.
+ * the packet's eight numbers, where it is 12 the offset.
  *
  *     capture FILE                 a ring of three: the rule book's ten frames, a station struck out, then bad packets
  *     capture FILE COUNT SEED      as many packets, most of them bad in one or two octets or in their length
@@ -51,10 +51,14 @@ static void begin(const char *name)
 static void frame(uint64_t from, uint64_t to, const uint8_t *packet, size_t octets)
 {
     struct rtep_packet p;
-    uint32_t number = rtep_read(addresses, STATIONS, packet, octets, &p);
+    uint32_t given = rtep_read(addresses, STATIONS, packet, octets, &p);
 
-    printf("%" PRIu32, number);
-    if (number == RTEP_DONE)
+    printf("%" PRIu32, RTEP_NUMBER(given));
+    if (RTEP_NUMBER(given) == RTEP_REFUSED_FIELD)
+        printf(" %" PRIu32, RTEP_OFFSET(given));
+    else
+        CHECK(RTEP_OFFSET(given) == 0);
+    if (given == RTEP_DONE)
         printf(" %" PRIu64 " %" PRIu64 " %" PRIu64 " %012" PRIx64 " %012" PRIx64 " %012" PRIx64 " %" PRIu64 " %" PRIu64,
                p.identifier, p.priority, p.number, p.master, p.failing, p.named, p.channel, p.length);
     printf("\n");
@@ -187,13 +191,13 @@ static void bad_packets(void)
         unsigned base;      /* which of the five */
         size_t octets;      /* as many octets instead; 0: as many as it has */
         size_t at;          /* where an octet is replaced */
-        unsigned octet, number;
+        unsigned octet, number, offset;
     } cases[] = {
-        {0, 45, 0, 1, 10},  {4, 1501, 0, 3, 10}, {0, 0, 0, 0, 11},    {0, 0, 0, 4, 11},    {1, 0, 1, 0, 12},
-        {2, 0, 1, 0, 12},   {0, 0, 9, 4, 12},    {0, 0, 15, 9, 12},   {0, 0, 21, 0, 12},   {0, 0, 4, 3, 12},
-        {1, 0, 15, 2, 12},  {0, 0, 45, 1, 12},   {0, 47, 0, 1, 12},   {2, 0, 5, 8, 12},    {2, 0, 4, 1, 12},
-        {2, 0, 45, 1, 12},  {2, 0, 18, 1, 12},   {2, 47, 0, 3, 12},   {3, 57, 0, 3, 12},   {3, 59, 0, 3, 12},
-        {3, 0, 6, 6, 12},   {2, 0, 7, 39, 12},   {0, 0, 10, 2, 12},
+        {0, 45, 0, 1, 10, 0},  {4, 1501, 0, 3, 10, 0}, {0, 0, 0, 0, 11, 0},   {0, 0, 0, 4, 11, 0},  {1, 0, 1, 0, 12, 1},
+        {2, 0, 1, 0, 12, 1},   {0, 0, 9, 4, 12, 4},    {0, 0, 15, 9, 12, 10}, {0, 0, 21, 0, 12, 16}, {0, 0, 4, 3, 12, 4},
+        {1, 0, 15, 2, 12, 10}, {0, 0, 45, 1, 12, 45},  {0, 47, 0, 1, 12, 0},  {2, 0, 5, 8, 12, 4},  {2, 0, 4, 1, 12, 4},
+        {2, 0, 45, 1, 12, 45}, {2, 0, 18, 1, 12, 18},  {2, 47, 0, 3, 12, 6},  {3, 57, 0, 3, 12, 6}, {3, 59, 0, 3, 12, 6},
+        {3, 0, 6, 6, 12, 6},   {2, 0, 7, 39, 12, 6},   {0, 0, 10, 2, 12, 10},
     };
     uint8_t packet[LONGEST];
     struct rtep_packet told;
@@ -204,7 +208,8 @@ static void bad_packets(void)
         if (cases[i].octets != 0)
             octets = cases[i].octets;
         packet[cases[i].at] = (uint8_t)cases[i].octet;
-        CHECK(rtep_read(addresses, STATIONS, packet, octets, &told) == cases[i].number);
+        uint32_t given = rtep_read(addresses, STATIONS, packet, octets, &told);
+        CHECK(RTEP_NUMBER(given) == cases[i].number && RTEP_OFFSET(given) == cases[i].offset);
         frame(addresses[0], addresses[1], packet, octets);
     }
 }

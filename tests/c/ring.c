@@ -130,7 +130,7 @@ static void start(unsigned which)
     free(told);
 }
 
-/* Hands a packet over; gives the number. */
+/* Hands a packet over; gives the number, with its offset. */
 static uint32_t hear(unsigned which, uint64_t from, uint64_t to, const uint8_t *octets, size_t len)
 {
     uint8_t *packet = exactly(len), *out = exactly(RTEP_OUT);
@@ -264,11 +264,20 @@ static void until_quiet(void)
 }
 
 /* A call that is refused changes nothing. */
-static void refused(unsigned which, uint32_t number, uint32_t expected, const uint8_t *record, const uint8_t *store)
+static void refused(unsigned which, uint32_t given, uint32_t expected, const uint8_t *record, const uint8_t *store)
 {
+    uint32_t number = RTEP_NUMBER(given);
     CHECK(number == expected, "station %u gave %u for %u", which, number, expected);
+    CHECK(number == RTEP_REFUSED_FIELD || RTEP_OFFSET(given) == 0, "%u has the offset %u", number, RTEP_OFFSET(given));
     CHECK(memcmp(record, ring[which].record, RTEP_RECORD) == 0, "%u changed the record", number);
     CHECK(memcmp(store, ring[which].store, RTEP_STORE) == 0, "%u changed the store", number);
+}
+
+/* The same of a packet that is bad at an offset. */
+static void bad_at(unsigned which, uint32_t given, uint32_t offset, const uint8_t *record, const uint8_t *store)
+{
+    refused(which, given, RTEP_REFUSED_FIELD, record, store);
+    CHECK(RTEP_OFFSET(given) == offset, "station %u gave the offset %u for %u", which, RTEP_OFFSET(given), offset);
 }
 
 static void make_all(void)
@@ -401,12 +410,15 @@ static void damaged_frames(void)
     refused(which, hear(which, to, addresses[other], packet, 46), RTEP_REFUSED_STATIONS, record, store);
     refused(which, hear(which, from, to, packet, 45), RTEP_REFUSED_PACKET_SIZE, record, store);
     refused(which, hear(which, from, to, packet, 1501), RTEP_REFUSED_PACKET_SIZE, record, store);
-    refused(which, hear(which, from, to, packet, 47), RTEP_REFUSED_FIELD, record, store);
+    bad_at(which, hear(which, from, to, packet, 47), 0, record, store);
     packet[0] = 0;
     refused(which, hear(which, from, to, packet, 46), RTEP_REFUSED_IDENTIFIER, record, store);
     packet[0] = wire.packet[0];
     packet[45] = 1;
-    refused(which, hear(which, from, to, packet, 46), RTEP_REFUSED_FIELD, record, store);
+    bad_at(which, hear(which, from, to, packet, 46), 45, record, store);
+    bad_at(which, hear(which, from, to, packet, 47), 45, record, store);
+    packet[21] ^= 1;
+    bad_at(which, hear(which, from, to, packet, 46), 16, record, store);
     on_wire = true;
     free(store);
 }
@@ -544,7 +556,8 @@ static void dead_station(void)
     expect_struck(2, 1u << 0 | 1u << 1 | 1u << 3 | 1u << 4);
     expect_taken(3, 1, 61, 0, 11, 102);
     CHECK(queue(0, 2, 5, 0, 1, 1) == RTEP_REFUSED_STRUCK, "queue to a struck station");
-    CHECK(hear(0, addresses[2], addresses[0], wire.packet, wire.octets) == RTEP_REFUSED_STATIONS, "a struck sender");
+    CHECK(RTEP_NUMBER(hear(0, addresses[2], addresses[0], wire.packet, wire.octets)) == RTEP_REFUSED_STATIONS,
+          "a struck sender");
 }
 
 /* Station 4 falls silent just as information goes to it: waiting messages are given up, then the one in flight. */
@@ -592,7 +605,8 @@ static void excluded_station(void)
     expect_struck(3, 1u << 0 | 1u << 1 | 1u << 3);
     CHECK(ring[3].given_up_count == 3, "waiting messages stay");
     CHECK(queue(3, 1, 2, 0, 5, 122) == RTEP_REFUSED_NOT_RUNNING && timer(3) == RTEP_REFUSED_NOT_RUNNING, "Excluded");
-    CHECK(hear(3, addresses[0], addresses[1], wire.packet, wire.octets) == RTEP_REFUSED_NOT_RUNNING, "Excluded");
+    CHECK(RTEP_NUMBER(hear(3, addresses[0], addresses[1], wire.packet, wire.octets)) == RTEP_REFUSED_NOT_RUNNING,
+          "Excluded");
     expect_taken(3, 0, 40, 7, 300, 120);
     ring[3].down = true;
     CHECK(queue(1, 0, 33, 4, 50, 130) == RTEP_DONE, "two go on");

@@ -90,8 +90,8 @@ static size_t measure(void (*call)(void), size_t caller)
     for (unsigned turn = 0; turn < 2; turn++) {
         memcpy(record, kept, sizeof record);
         size_t used = depth(call, turn == 0 ? 0x5A : 0xA5);
-        if (number != expected) {
-            fprintf(stderr, "stack: %u, not %u\n", number, expected);
+        if (RTEP_NUMBER(number) != expected) {
+            fprintf(stderr, "stack: %u, not %u\n", RTEP_NUMBER(number), expected);
             exit(1);
         }
         most = used > most ? used : most;

@@ -5,7 +5,8 @@
 -- or copied to the folder "Personal Lua Plugins" that Help, About Wireshark, Folders names.
 --
 -- A packet that a station would refuse is marked malformed, each reason at its field, and rtep.refused is the rule
--- book's number: 10, 11 or 12. Whether an address belongs to the ring is only looked at where the preference rtep.ring
+-- book's number: 10, 11 or 12. Beside 12 rtep.offset is where the packet is bad: the first octet of its first bad field,
+-- else its first pad octet that is not zero, else the length's, 6 for information and 0 for a token. Whether an address belongs to the ring is only looked at where the preference rtep.ring
 -- names its members: -o "rtep.ring:02:00:00:00:00:01 02:00:00:00:00:02". An address that no ring can have is always
 -- marked.
 --
@@ -39,6 +40,7 @@ local field = {
     unread = ProtoField.bytes("rtep.unread", "Octets not read"),
     wire = ProtoField.uint16("rtep.wire", "Octets on the wire"),
     refused = ProtoField.uint8("rtep.refused", "Refused with"),
+    offset = ProtoField.uint16("rtep.offset", "Bad at octet"),
     acknowledges = ProtoField.framenum("rtep.acknowledges", "Acknowledges frame", base.NONE, frametype.ACK),
 }
 rtep.fields = field
@@ -99,8 +101,9 @@ end
 
 local function add_pad(tree, packet, at, bad)
     local item, octets = add(tree, field.pad, packet, at, LEAST - at)
-    if item and octets:find("[^0]") then
-        bad(item, 12, "A pad octet is not zero")
+    local digit = item and octets:find("[^0]")
+    if digit then
+        bad(item, 12, "A pad octet is not zero", at + math.floor((digit - 1) / 2))
     end
 end
 
@@ -116,14 +119,14 @@ local function token(packet, tree, kind, bad)
                 item:append_text(" (none)")
                 return
             elseif kind == TRANSMIT then
-                bad(item, 12, "A transmit token's failing station is not zero")
+                bad(item, 12, "A transmit token's failing station is not zero", at)
             end
             failing = octets
         end
         words = words .. ", " .. name .. " " .. octets:gsub("(%x%x)", "%1:"):sub(1, -2)
         local why = not_a_member(octets)
         if why then
-            bad(item, 12, "The address " .. why)
+            bad(item, 12, "The address " .. why, at)
         end
     end
     station(field.master, "master", 4)
@@ -132,7 +135,7 @@ local function token(packet, tree, kind, bad)
     add_pad(tree, packet, 22, bad)
     local octets = packet:reported_len()
     if octets > LEAST then
-        bad(add(tree, field.beyond, packet, LEAST, octets - LEAST) or tree, 12, "A token has 46 octets")
+        bad(add(tree, field.beyond, packet, LEAST, octets - LEAST) or tree, 12, "A token has 46 octets", 0, true)
     end
     return words, failing
 end
@@ -141,14 +144,14 @@ local function information(packet, tree, bad)
     local channel, length = packet(4, 2):uint(), packet(6, 2):uint()
     local item = tree:add(field.channel, packet(4, 2))
     if channel > 7 then
-        bad(item, 12, "Channel above 7")
+        bad(item, 12, "Channel above 7", 4)
     end
     item = tree:add(field.length, packet(6, 2))
     local octets, whole = packet:reported_len(), math.max(LEAST, 8 + length)
     if length > INFORMATION_MOST then
-        bad(item, 12, "Length above 1,492")
+        bad(item, 12, "Length above 1,492", 6)
     elseif octets ~= whole then
-        bad(item, 12, "This length calls for " .. whole .. " octets, and there are " .. octets)
+        bad(item, 12, "This length calls for " .. whole .. " octets, and there are " .. octets, 6, true)
     end
     add(tree, field.information, packet, 8, math.min(length, octets - 8))
     if 8 + length < LEAST then
@@ -191,9 +194,15 @@ end
 function rtep.dissector(packet, pinfo, root)
     pinfo.cols.protocol = "RT-EP"
     local tree = root:add(rtep, packet())
-    local refused
-    local function bad(item, number, words)
+    -- Fields and pad octets come here in wire order; a length that disagrees counts where nothing else is bad.
+    local refused, offset, of_length
+    local function bad(item, number, words, at, by_length)
         refused = refused or number
+        if by_length then
+            of_length = at
+        else
+            offset = offset or at
+        end
         item:add_proto_expert_info(refusal[number], words)
     end
 
@@ -212,7 +221,7 @@ function rtep.dissector(packet, pinfo, root)
         else
             item = tree:add(field.priority, packet(1, 1))
             if priority == 0 and kind ~= TOKEN then
-                bad(item, 12, "Only a token may have priority 0")
+                bad(item, 12, "Only a token may have priority 0", 1)
             end
             tree:add(field.number, packet(2, 2))
             words = kinds[kind] .. " " .. number .. ", priority " .. priority
@@ -229,7 +238,13 @@ function rtep.dissector(packet, pinfo, root)
     tree:add(field.wire, octets + AROUND):set_generated()
     if refused then
         tree:add(field.refused, refused):set_generated()
-        words = words .. " [malformed: " .. refused .. "]"
+        words = words .. " [malformed: " .. refused
+        if refused == 12 then
+            offset = offset or of_length
+            tree:add(field.offset, offset):set_generated()
+            words = words .. " at octet " .. offset
+        end
+        words = words .. "]"
     elseif not pinfo.visited then
         acknowledge(pinfo, number, failing)
     end

@@ -61,7 +61,7 @@ priorityRead (Information h) = h .priority
 
 -- none for octets that are no packet
 abbrev pub rowRead : ℕ → ℕ → Read → List Row
-rowRead from to (Refused number) = []
+rowRead from to (Refused why) = []
 rowRead from to (Good p) =
     record { number = numberRead p; kind = kindRead p; from = from; to = to; priority = priorityRead p; octets = wireOctets p } ∷ []
 

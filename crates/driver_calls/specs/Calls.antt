@@ -9,7 +9,7 @@ use lib.ListN.{length, take}
 use Rattle.codec.specs.Order.{firstOf}
 use Rattle.codec.specs.Octets.{laid}
 use Rattle.codec.specs.Ring.{Ring, position, isMember, readRing}
-use Rattle.packet_codec.specs.Packet.{longestPacket, informationIn, readPacket, kept}
+use Rattle.packet_codec.specs.Packet.{longestPacket, informationIn, readPacket, readNumber, kept}
 use Rattle.packet_codec.specs.declared.reading.Read.{Read}
 use Rattle.packet_codec.specs.declared.reading.Read.the-variants.{Refused, Good}
 use Rattle.parts.specs.Choose.{pick}
@@ -124,10 +124,10 @@ Timing rec store out told r rec′ out′ told′ =
     Sending (callNumber (badBuffers (length store) (length out)) rec (timerAnswer rec)) (timerAnswer rec) (ringIn rec)
     (timerInformation rec store) rec out told r rec′ out′ told′
 
--- ---- frame: 22, then 13, then 10 to 12
+-- ---- frame: 22, then 13, then 10 to 12, the last with the offset that reading gives
 
 abbrev pub heardThen : Station → List ℕ → ℕ → ℕ → Read → Answer
-heardThen s ring from to (Refused number) = answered s number
+heardThen s ring from to (Refused why) = answered s (readNumber (Refused why))
 heardThen s ring from to (Good p) = frameRule s (frameOf ring p) from to
 
 unfoldable pub packetRule : Station → List ℕ → ℕ → ℕ → List ℕ → Answer
@@ -138,7 +138,7 @@ packetRule s ring from to packet =
 
 -- what it asks for, in the same order
 abbrev pub decidedRead : Station → List ℕ → ℕ → ℕ → Read → Verdict
-decidedRead s ring from to (Refused number) = refused (s .turn) number
+decidedRead s ring from to (Refused why) = refused (s .turn) (readNumber (Refused why))
 decidedRead s ring from to (Good p) = decided s (frameOf ring p) from to
 
 unfoldable pub decidedPacket : Station → List ℕ → ℕ → ℕ → List ℕ → Verdict

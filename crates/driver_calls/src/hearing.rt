@@ -12,6 +12,7 @@ use driver_buffers::places::information_of;
 use driver_buffers::places::put_received;
 use packet_codec::packet::Packet;
 use packet_codec::reading::Read;
+use packet_codec::reading::number_of;
 use packet_codec::reading::read_packet;
 use parts::moves::Event;
 use records::record::open;
@@ -55,7 +56,7 @@ pub fn decide_packet(s: Station, ring: &[u64], from: u64, to: u64, packet: &[u8]
         return station::rules::deeds::refuse(turn, k);
     }
     match read_packet(ring, packet) {
-        Read::Refused(number) => station::rules::deeds::refuse(turn, number),
+        Read::Refused(why) => station::rules::deeds::refuse(turn, number_of(why)),
         Read::Good(p) => s.decide(frame_of(ring, p), f, t),
     }
 }

@@ -2,3 +2,4 @@
 pub mod WholeTyped
 pub mod HeardFrames
 pub mod MadeRecords
+pub mod Numbers

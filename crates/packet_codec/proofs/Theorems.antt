@@ -1,3 +1,4 @@
 -- Reading undoes writing, and writing undoes reading.
 pub mod ReadWrite
 pub mod WriteRead
+pub mod BadAt

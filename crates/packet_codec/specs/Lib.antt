@@ -1,3 +1,4 @@
 pub mod Packet
 pub mod Typed
 pub mod RoundTrip
+pub mod BadAt

@@ -1,5 +1,5 @@
 -- The packet: its fields and their places, its checks in their order, and what reading and writing give.
-use Prim.Native.Nat.{ℕ, zero, suc, _+_, _-_, _^_, max}
+use Prim.Native.Nat.{ℕ, zero, suc, _+_, _-_, _*_, _/_, _^_, _<_, max}
 use mathlib.Core.Path.{_≡_}
 use mathlib.Core.Bool.{Bool, true, false, cond, not, _&&_}
 use mathlib.Core.List.{List, [], _∷_, _++_}
@@ -15,6 +15,8 @@ use Rattle.packet_codec.specs.declared.packet.Packet.{Packet}
 use Rattle.packet_codec.specs.declared.packet.Packet.the-variants.{Token, Transmit, Information}
 use Rattle.packet_codec.specs.declared.fields.Looked.{Looked}
 use Rattle.packet_codec.specs.declared.fields.Looked.the-variants.{Sound, Bad}
+use Rattle.packet_codec.specs.declared.reading.Refusal.{Refusal}
+use Rattle.packet_codec.specs.declared.reading.Refusal.the-variants.{Size, Identifier, BadAt}
 use Rattle.packet_codec.specs.declared.reading.Read.{Read}
 use Rattle.packet_codec.specs.declared.reading.Read.the-variants.{Refused, Good}
 
@@ -156,6 +158,11 @@ readTests ring s p = fieldTests ring p ++ restTests s p
 abbrev pub writeTests : List ℕ → Packet → ℕ → List (Bool × Looked)
 writeTests ring p info = fieldTests ring p ++ lengthTests info (informationLength p) (lengthFrom p)
 
+-- a place below n, where there is one
+abbrev pub Below : ℕ → Looked → Type 0
+Below n Sound = Unit {0}
+Below n (Bad from) = from < n
+
 -- what more looking gives after a first look: the first bad place stays
 abbrev pub thenLooked : Looked → Looked → Looked
 thenLooked Sound more = more
@@ -168,20 +175,39 @@ isBad (Bad from) = true
 
 -- ---- reading and writing
 
+-- what the look at the fields makes of a packet
+abbrev pub lookedRead : Packet → Looked → Read
+lookedRead p Sound = Good p
+lookedRead p (Bad from) = Refused (BadAt from)
+
 unfoldable pub readPacket : List ℕ → List ℕ → Read
 readPacket ring s =
-    firstOf (Good (packetOf s))
-    ((ltb (length s) shortPacket, Refused 10)
-    ∷ (ltb longestPacket (length s), Refused 10)
-    ∷ (ltb (identifier s) 1, Refused 11)
-    ∷ (ltb 3 (identifier s), Refused 11)
-    ∷ (isBad (firstOf Sound (readTests ring s (packetOf s))), Refused 12)
+    firstOf (lookedRead (packetOf s) (firstOf Sound (readTests ring s (packetOf s))))
+    ((ltb (length s) shortPacket, Refused Size)
+    ∷ (ltb longestPacket (length s), Refused Size)
+    ∷ (ltb (identifier s) 1, Refused Identifier)
+    ∷ (ltb 3 (identifier s), Refused Identifier)
     ∷ [])
 
--- this paper's number for each case: 0 for a packet
+-- this paper's number for each case, and the offset, which 12 alone has: 0 beside any other number
+abbrev pub readAnswer : Read → ℕ × ℕ
+readAnswer (Refused Size) = (10, 0)
+readAnswer (Refused Identifier) = (11, 0)
+readAnswer (Refused (BadAt offset)) = (12, offset)
+readAnswer (Good p) = (0, 0)
+
+-- both as the one number that a call gives back: this paper's number in the lower 16 bits, the offset in the upper
 abbrev pub readNumber : Read → ℕ
-readNumber (Refused number) = number
-readNumber (Good p) = 0
+readNumber r = readAnswer r .0 + 65536 * readAnswer r .1
+
+-- the number that a look at the fields calls for
+abbrev pub lookNumber : Looked → ℕ
+lookNumber Sound = 0
+lookNumber (Bad from) = readNumber (Refused (BadAt from))
+
+-- the refusal that a number stands for
+unfoldable pub refusalIn : ℕ → Refusal
+refusalIn number = cond (eqb number 10) Size (cond (eqb number 11) Identifier (BadAt (number / 65536)))
 
 unfoldable pub writeRefusal : List ℕ → Packet → ℕ → ℕ → ℕ
 writeRefusal ring p info room =

@@ -1,11 +1,11 @@
 // Reading a packet against a ring.
 ghost use mathlib.Core.Path.{_≡_};
-ghost use mathlib.Core.Bool.{cond};
 ghost use Prim.Native.Nat.{_≤_, _<_};
 ghost use lib.ListN.{length};
 ghost use Rattle.codec.specs.Order.{firstOf};
 ghost use Rattle.packet_codec.specs.declared.fields.Looked.the-variants.{Sound};
-ghost use Rattle.packet_codec.specs.Packet.{shortPacket, identifier, shortOf, headOf, packetOf, readTests, isBad, readPacket, readNumber};
+ghost use Rattle.packet_codec.specs.declared.reading.Read.the-variants.{Refused};
+ghost use Rattle.packet_codec.specs.Packet.{shortPacket, identifier, shortOf, headOf, packetOf, readTests, Below, readPacket, readNumber, lookNumber, refusalIn};
 use crate::fields::Looked;
 use crate::fields::look_information;
 use crate::fields::look_token;
@@ -16,9 +16,16 @@ use crate::packet::Packet;
 use crate::packet::Short;
 use codec::octets::get;
 
-// What reading a packet gives: the packet, or the number of the refusal.
+// Why a packet is refused: its size, its identifier, or the first bad field or pad octet, or the length, with the offset that it is laid to.
+pub enum Refusal {
+    Size,
+    Identifier,
+    BadAt(u16),
+}
+
+// What reading a packet gives: the packet, or why it is refused.
 pub enum Read {
-    Refused(u32),
+    Refused(Refusal),
     Good(Packet),
 }
 
@@ -84,18 +91,30 @@ fn look_long(ring: &[u64], s: &[u8]) -> Looked
     then_rest(look_information(ring, p), s, Packet::Information(p))
 }
 
-// The number of a look at the fields.
-fn number_of(l: Looked) -> u32
-    ensures { λ r. ⌜ r ≡ cond (isBad l) 12 0 ⌝ }
+// The number that a call gives back for a packet that is refused: the offset beside 12 is in its upper 16 bits.
+pub fn number_of(why: Refusal) -> u32
+    ensures { λ r. ⌜ r ≡ readNumber (Refused why) ⌝ }
 {
-    match l {
-        Looked::Sound => 0,
-        Looked::Bad(_) => 12,
+    match why {
+        Refusal::Size => 10,
+        Refusal::Identifier => 11,
+        Refusal::BadAt(offset) => 12 + 65536 * offset as u32,
     }
 }
 
-// The refusal of a packet that is read against a ring, or 0. Information needs no ring: it is looked at first, so that the
-// compiler need not have the ring at hand.
+// The number of a look at the fields.
+fn look_number(l: Looked) -> u32
+    requires { ⌜ Below 65536 l ⌝ }
+    ensures { λ r. ⌜ r ≡ lookNumber l ⌝ }
+{
+    match l {
+        Looked::Sound => 0,
+        Looked::Bad(at) => number_of(Refusal::BadAt(at as u16)),
+    }
+}
+
+// The number of a packet that is read against a ring, 0 where it is good: a number alone, which the compiler hands over in no memory.
+// Information needs no ring: it is looked at first, so that the compiler need not have the ring at hand.
 pub fn refusal_of(ring: &[u64], s: &[u8]) -> u32
     ensures { λ r. ⌜ r ≡ readNumber (readPacket (now (ring .entry)) (now (s .entry))) ⌝ }
 {
@@ -113,9 +132,22 @@ pub fn refusal_of(ring: &[u64], s: &[u8]) -> u32
         return 11;
     }
     if identifier == 3 {
-        return number_of(look_long(ring, s));
+        return look_number(look_long(ring, s));
     }
-    number_of(look_short(ring, s))
+    look_number(look_short(ring, s))
+}
+
+// The refusal that a number stands for.
+fn refusal_in(number: u32) -> Refusal
+    ensures { λ r. ⌜ r ≡ refusalIn number ⌝ }
+{
+    if number == 10 {
+        return Refusal::Size;
+    }
+    if number == 11 {
+        return Refusal::Identifier;
+    }
+    Refusal::BadAt((number / 65536) as u16)
 }
 
 pub fn read_packet(ring: &[u64], s: &[u8]) -> Read
@@ -123,7 +155,7 @@ pub fn read_packet(ring: &[u64], s: &[u8]) -> Read
 {
     let number = refusal_of(ring, s);
     if number != 0 {
-        return Read::Refused(number);
+        return Read::Refused(refusal_in(number));
     }
     Read::Good(packet_of(s))
 }

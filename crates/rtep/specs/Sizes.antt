@@ -4,7 +4,7 @@ use Rattle.records.specs.Layout.{placeLength}
 
 -- Each landing that changes the octets of a record or a store, the numbers of what is told, or what a call takes adds one.
 abbrev pub layoutNumber : ℕ
-layoutNumber = 1
+layoutNumber = 2
 
 -- the least out buffer holds the longest packet: information of a whole place behind its 8 octets of fields
 abbrev pub outLength : ℕ

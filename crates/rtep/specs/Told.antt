@@ -42,7 +42,7 @@ valuesOf (Transmit p) = shortValues 2 p
 valuesOf (Information h) = headValues h
 
 abbrev pub readTold : Read → List ℕ → List ℕ
-readTold (Refused n) told = told
+readTold (Refused why) told = told
 readTold (Good p) told = valuesOf p
 
 pub record ReadTold (ring packet told : List ℕ) (r : ℕ) (told′ : List ℕ) : Type 0 where

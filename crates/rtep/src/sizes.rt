@@ -10,7 +10,7 @@ use records::layout;
 pub extern "C" fn rtep_layout() -> u32
     ensures { λ r. ⌜ r ≡ layoutNumber ⌝ }
 {
-    1
+    2
 }
 
 #[no_mangle]

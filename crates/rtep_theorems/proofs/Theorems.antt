@@ -3,3 +3,4 @@ pub mod OneAnswer
 pub mod ReadWrite
 pub mod WriteRead
 pub mod RingFile
+pub mod Located

@@ -95,9 +95,19 @@ pub fn ring(file: &[u8], told: &mut [u64; 66]) -> u32 {
     unsafe { exports::rtep_ring(file.as_ptr(), file.len(), told) }
 }
 
+/// The page's number of what `read` and `frame` give, as `RTEP_NUMBER` of the header.
+pub fn number(given: u32) -> u32 {
+    given & 0xFFFF
+}
+
+/// The offset that they give beside 12, as `RTEP_OFFSET` of the header; 0 beside any other number.
+pub fn offset(given: u32) -> u32 {
+    given >> 16
+}
+
 /// Reads a packet against a ring's members. Told: identifier, priority, number, master, failing
 /// (0: none), named, channel, length; 0 where the kind has no such number. The information is
-/// `packet[8..8 + length]`. Gives 0, 10, 11 or 12.
+/// `packet[8..8 + length]`. Gives 0, 10, 11 or 12, with `number` and `offset`.
 #[inline]
 pub fn read(members: &[u64], packet: &[u8], told: &mut [u64; 8]) -> u32 {
     // SAFETY: the pointers and the lengths are those of live Rust references.
@@ -150,7 +160,8 @@ pub fn start(record: &mut [u8], out: &mut [u8], told: &mut [u64; 84]) -> u32 {
     }
 }
 
-/// Hands over a frame that was heard. Told as by `start`. Gives 0, 9, 35, 22, 13 or 10 to 12.
+/// Hands over a frame that was heard. Told as by `start`. Gives 0, 9, 35, 22, 13 or 10 to 12,
+/// with `number` and `offset`.
 #[inline]
 pub fn frame(
     record: &mut [u8],

@@ -307,6 +307,45 @@ pub fn read<'a>(members: &[u64], packet: &'a [u8]) -> Result<Packet<'a>, Vec<Rea
     }
 }
 
+/// Where a packet is bad that is refused with 12, by CR 9's words alone: the first octet of the
+/// first bad field in wire order; else the first pad octet that is not zero; else, where only the
+/// length disagrees, 6 for information and 0 for a short packet.
+pub fn bad_offset(members: &[u64], packet: &[u8]) -> usize {
+    type Good<'a> = &'a dyn Fn(u64) -> bool;
+    let some: Good = &|priority| priority != 0;
+    let member: Good = &|address| belongs(members, address);
+    let none_or_member: Good = &|address| address == 0 || member(address);
+    // Every field that can be bad: where it begins, its octets, and whether a value is good.
+    let (fields, pad, length): (Vec<(usize, usize, Good)>, usize, usize) = match packet[0] {
+        1 => (vec![(4, 6, member), (10, 6, none_or_member), (16, 6, member)], 22, 0),
+        2 => {
+            let none: Good = &|address| address == 0;
+            (vec![(1, 1, some), (4, 6, member), (10, 6, none), (16, 6, member)], 22, 0)
+        }
+        _ => {
+            let fields: Vec<(usize, usize, Good)> =
+                vec![(1, 1, some), (4, 2, &|channel| channel <= 7), (6, 2, &|n| n <= 1492)];
+            (fields, 8 + get(packet, 6, 2) as usize, 6)
+        }
+    };
+    let bad_fields = fields
+        .iter()
+        .filter(|(at, octets, good)| !good(get(packet, *at, *octets)))
+        .map(|(at, _, _)| *at);
+    let bad_pads = (pad..46).filter(|at| packet[*at] != 0);
+    bad_fields.chain(bad_pads).next().unwrap_or(length)
+}
+
+/// The number that reading gives back: the page's in the lower 16 bits, and beside 12 the offset in
+/// the upper.
+pub fn read_answer(members: &[u64], packet: &[u8]) -> u32 {
+    match read(members, packet) {
+        Ok(_) => 0,
+        Err(faults) if faults[0].number() == 12 => (bad_offset(members, packet) as u32) << 16 | 12,
+        Err(faults) => faults[0].number(),
+    }
+}
+
 /// What can be wrong with a packet that is to be written.
 #[derive(Debug, Clone, Copy, PartialEq, Eq, PartialOrd, Ord)]
 pub enum WriteFault {
@@ -520,8 +559,30 @@ mod tests {
         assert_eq!(read(&[], &octets), Ok(information));
         octets[7] = 2;
         assert_eq!(read(&[], &octets), Err(vec![ReadFault::Pad]));
+        assert_eq!(read_answer(&[], &octets), 10 << 16 | 12);
         octets[7] = 39;
         assert_eq!(read(&[], &octets), Err(vec![ReadFault::Length]));
+        assert_eq!(read_answer(&[], &octets), 6 << 16 | 12);
+    }
+
+    #[test]
+    fn the_first_bad_place() {
+        let members = [2, 4];
+        let token = Packet::Token { priority: 5, number: 9, master: 2, failing: None, named: 4 };
+        let at = |changes: &[(usize, u8)], len: usize| {
+            let mut octets = token.octets();
+            octets.resize(len, 0);
+            changes.iter().for_each(|(at, octet)| octets[*at] = *octet);
+            read_answer(&members, &octets)
+        };
+        assert_eq!(at(&[], 46), 0);
+        assert_eq!(at(&[(9, 3)], 46), 4 << 16 | 12);
+        assert_eq!(at(&[(45, 1), (21, 5)], 47), 16 << 16 | 12);
+        assert_eq!(at(&[(45, 1)], 47), 45 << 16 | 12);
+        assert_eq!(at(&[(46, 1)], 47), 12);
+        assert_eq!(at(&[(0, 2), (1, 0), (15, 2)], 46), 1 << 16 | 12);
+        assert_eq!(at(&[(0, 4)], 46), 11);
+        assert_eq!(at(&[], 45), 10);
     }
 
     #[test]

@@ -15,6 +15,7 @@ fn cases() {
     let mut told = Told(String::new());
     ring_files(&mut told);
     packets_read(&mut told);
+    packets_read_bad_at(&mut told);
     packets_written(&mut told);
     moves(&mut told);
     starts(&mut told);
@@ -430,7 +431,7 @@ const NOTICE: Packet =
 fn packets_read(told: &mut Told) {
     told.title("packets read");
     let mut case = |words: &str, packet: &[u8]| {
-        told.answer(words, rtep::read(&MEMBERS, packet, &mut [0; 8]));
+        told.answer(words, rtep::number(rtep::read(&MEMBERS, packet, &mut [0; 8])));
     };
     let (token, notice) = (TOKEN.octets(), NOTICE.octets());
     case("token", &token);
@@ -456,6 +457,41 @@ fn packets_read(told: &mut Told) {
     let most = Packet::Information { priority: 1, number: 0, channel: 0, information: &[0; 1492] };
     case("information of 1,492 octets", &most.octets());
     case("information of 1,493 octets in 1,500", &changed(&most.octets(), &[(7, 213)]));
+}
+
+fn packets_read_bad_at(told: &mut Told) {
+    told.title("packets read: where a packet is bad");
+    let mut case = |words: &str, packet: &[u8]| {
+        let given = rtep::read(&MEMBERS, packet, &mut [0; 8]);
+        let (number, offset) = (rtep::number(given), rtep::offset(given));
+        tell!(told, "  {words}: {number} at {offset}\n");
+    };
+    let long = |octets: Vec<u8>| [octets, vec![0]].concat();
+    let (token, notice) = (TOKEN.octets(), NOTICE.octets());
+    let mut odd = |words: &str, changes: &[(usize, u8)]| case(words, &changed(&token, changes));
+    odd("master that is no member, by its last octet", &[(9, 8)]);
+    odd("failing station that is no member", &[(15, 8)]);
+    odd("named station that is no member", &[(21, 8)]);
+    odd("transmit token of priority 0", &[(0, 2), (1, 0)]);
+    odd("transmit token with a failing station", &[(0, 2), (15, 6)]);
+    odd("last pad octet not zero", &[(45, 1)]);
+    odd("first and last pad octet not zero", &[(45, 1), (22, 1)]);
+    odd("named station and master no members", &[(21, 8), (9, 8)]);
+    odd("named station no member, and a pad octet not zero", &[(21, 8), (30, 1)]);
+    case("a token of 47 octets", &long(token.clone()));
+    case("a token of 47 octets, the last not zero", &changed(&long(token.clone()), &[(46, 1)]));
+    case("a token of 47 octets, a pad octet not zero", &changed(&long(token.clone()), &[(45, 1)]));
+    let mut odd = |words: &str, changes: &[(usize, u8)]| case(words, &changed(&notice, changes));
+    odd("information of priority 0, on channel 8", &[(1, 0), (5, 8)]);
+    odd("channel 8", &[(5, 8)]);
+    odd("channel 256", &[(4, 1), (5, 0)]);
+    odd("an octet past the information not zero", &[(7, 2)]);
+    odd("39 octets of information in 46", &[(7, 39)]);
+    odd("39 octets of information in 46, on channel 8", &[(5, 8), (7, 39)]);
+    case("3 octets of information in 47", &long(notice.clone()));
+    case("3 octets in 47, a pad octet not zero", &changed(&long(notice.clone()), &[(11, 1)]));
+    let most = Packet::Information { priority: 1, number: 0, channel: 0, information: &[0; 1492] };
+    case("1,493 octets of information in 1,500", &changed(&most.octets(), &[(7, 213)]));
 }
 
 fn packets_written(told: &mut Told) {

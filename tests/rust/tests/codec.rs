@@ -5,6 +5,7 @@
 
 use rtep::model::{self, Packet, ReadFault, RingFault, WriteFault};
 use rtep::random::Random;
+use rtep::yardstick::codec as yardstick;
 use std::collections::BTreeMap;
 use std::fmt::{Debug, Write};
 
@@ -22,6 +23,16 @@ const EACH: u64 = 1_000;
 /// How often two faults must come together that the order of checks decides between.
 const EACH_PAIR: u64 = 100;
 
+const EVERY_OCTET: [u8; 256] = {
+    let mut octets = [0; 256];
+    let mut octet = 0;
+    while octet < 256 {
+        octets[octet] = octet as u8;
+        octet += 1;
+    }
+    octets
+};
+
 const ADDRESS: u64 = (1 << 48) - 1;
 const GROUP: u64 = 1 << 40;
 
@@ -35,6 +46,8 @@ struct Tally<F> {
     answers: BTreeMap<u32, u64>,
     alone: BTreeMap<F, u64>,
     pairs: BTreeMap<(F, F), u64>,
+    /// Beside 12.
+    offsets: BTreeMap<u32, u64>,
 }
 
 impl<F: Copy + Ord + Debug> Tally<F> {
@@ -48,6 +61,7 @@ impl<F: Copy + Ord + Debug> Tally<F> {
             answers: BTreeMap::new(),
             alone: BTreeMap::new(),
             pairs: BTreeMap::new(),
+            offsets: BTreeMap::new(),
         }
     }
 
@@ -551,7 +565,7 @@ fn check_read(
     let model = model::read(members, packet);
     let (answer, expected) = match &model {
         Ok(read) => (0, told.after(&read.numbers())),
-        Err(faults) => (faults[0].number(), told.after(&[])),
+        Err(_) => (model::read_answer(members, packet), told.after(&[])),
     };
     let given = rtep::read(members, packet, told.lend());
     let differs = |what: &str, library: String, model: String| -> ! {
@@ -564,8 +578,13 @@ fn check_read(
             hex(packet)
         )
     };
+    let words = |given| format!("{} at {}", rtep::number(given), rtep::offset(given));
     if given != answer {
-        differs("answer", given.to_string(), format!("{answer}, {model:x?}"));
+        differs("answer", words(given), format!("{}, {model:x?}", words(answer)));
+    }
+    let plain = yardstick_read(members, packet);
+    if plain != answer {
+        differs("the yardstick's answer", words(plain), words(answer));
     }
     if told.numbers != expected {
         differs("told, with one number more at both ends", list(&told.numbers), list(&expected));
@@ -600,7 +619,17 @@ fn check_read(
         }
         Err(faults) => faults,
     };
-    tally.count(family, answer, &faults);
+    tally.count(family, rtep::number(answer), &faults);
+    if rtep::number(answer) == 12 {
+        *tally.offsets.entry(rtep::offset(answer)).or_default() += 1;
+    }
+}
+
+/// What the plain codec gives, which the benchmarks stand beside.
+fn yardstick_read(members: &[u64], packet: &[u8]) -> u32 {
+    let known = |address| members.contains(&address).then_some(address);
+    let failing = |address| if address == 0 { Some(0) } else { known(address) };
+    yardstick::read(packet, known, failing).err().unwrap_or(0)
 }
 
 /// Sets one field of a packet to a value at or past its edges.
@@ -813,6 +842,114 @@ fn packets_read() {
         // A length field above 1,492 never calls for a length that 10 lets through.
         &[(Size, Identifier), (LengthField, Length)],
     );
+}
+
+/// A packet of each kind, fit to read against these members, with the places of its fields that can
+/// be bad and where its pad begins.
+fn each_kind(members: &[u64]) -> Vec<(Vec<u8>, &'static [usize], usize)> {
+    let (master, other) = (members[0], members[members.len() - 1]);
+    let token = |failing| Packet::Token { priority: 5, number: 9, master, failing, named: other };
+    let transmit = Packet::TransmitToken { priority: 5, number: 9, master, named: other };
+    let mut kinds: Vec<(Vec<u8>, &'static [usize], usize)> = vec![
+        (token(None).octets(), &[4, 10, 16], 22),
+        (token(Some(other)).octets(), &[4, 10, 16], 22),
+        (transmit.octets(), &[1, 4, 10, 16], 22),
+    ];
+    for n in [0, 1, 10, 37, 38, 39, 100, 1491, 1492] {
+        let information = &vec![0xA5; n];
+        let packet = Packet::Information { priority: 5, number: 9, channel: 3, information };
+        kinds.push((packet.octets(), &[1, 4, 6], 8 + n));
+    }
+    kinds
+}
+
+/// One wrong octet at every place of each kind of packet, and in packets that are too long.
+#[test]
+fn one_wrong_octet() {
+    let mut tally = Tally::new("one wrong octet", READ_SEED);
+    let random = &mut Random::new(READ_SEED);
+    let members = [0x0203_0405_0607, 0x0213_1415_1617, 0x0223_2425_2627];
+    for (octets, _, _) in each_kind(&members) {
+        for longer in [0, 1, 2, 20] {
+            let mut packet = octets.clone();
+            packet.resize(octets.len() + longer, 0);
+            for place in 0..packet.len() {
+                // Every value where the place can be bad, and a few where it is information.
+                let values: &[u8] = if place < 46 { &EVERY_OCTET } else { &[0, 1, 128, 255] };
+                let right = packet[place];
+                for &value in values {
+                    packet[place] = value;
+                    check_read(&mut tally, random, "one wrong octet", &members, &packet);
+                }
+                packet[place] = right;
+            }
+        }
+    }
+    // No other place is ever named: the fields that can be bad, every pad octet, and both lengths.
+    let places: Vec<u32> = [0, 1, 4, 6].into_iter().chain(8..46).collect();
+    assert!(tally.offsets.keys().eq(&places), "offsets {:?}", tally.offsets);
+    tally.close(100_000, &[0, 10, 11, 12], &[], &[]);
+}
+
+/// Two bad things at once, fields, pad octets and the length, in either order: the first is named.
+#[test]
+fn pairs_of_wrong_fields() {
+    let mut tally = Tally::new("pairs of wrong fields", READ_SEED);
+    let random = &mut Random::new(READ_SEED);
+    let members = [0x0203_0405_0607, 0x0213_1415_1617, 0x0223_2425_2627];
+    for (octets, fields, pad) in each_kind(&members) {
+        let length = if octets[0] == 3 { 6 } else { 0 };
+        // Each bad thing: the offset that it has alone, and how it comes about.
+        let mut things: Vec<(usize, Bad)> = vec![(length, Bad::Longer)];
+        for &at in fields {
+            let octets = match (octets[0], at) {
+                (_, 1) => 1,
+                (3, _) => 2,
+                _ => 6,
+            };
+            (at..at + octets).for_each(|place| things.push((at, Bad::Octet(place))));
+        }
+        things.extend((pad..46).map(|place| (place, Bad::Octet(place))));
+        // A wrong length field can call for another pad and another length.
+        let exact = |bad| octets[0] != 3 || !matches!(bad, Bad::Octet(6 | 7));
+        for &(first, one) in &things {
+            for &(second, other) in &things {
+                let packet = other.done(&one.done(&octets));
+                if packet.len() > 1500 {
+                    continue;
+                }
+                if exact(one) && exact(other) {
+                    let rank = |at, bad| (matches!(bad, Bad::Longer), at);
+                    let first = if rank(first, one) < rank(second, other) { first } else { second };
+                    let given = model::read_answer(&members, &packet);
+                    assert_eq!((rtep::number(given), rtep::offset(given)), (12, first as u32));
+                }
+                check_read(&mut tally, random, "pairs of wrong fields", &members, &packet);
+            }
+        }
+    }
+    tally.close(10_000, &[12], &[], &[]);
+}
+
+/// How a packet is made bad.
+#[derive(Clone, Copy)]
+enum Bad {
+    /// A wrong octet: 0 in a priority, else one that no field may have there.
+    Octet(usize),
+    /// An octet more.
+    Longer,
+}
+
+impl Bad {
+    fn done(self, packet: &[u8]) -> Vec<u8> {
+        let mut packet = packet.to_vec();
+        match self {
+            Bad::Octet(1) => packet[1] = 0,
+            Bad::Octet(place) => packet[place] = 0xFE,
+            Bad::Longer => packet.push(0),
+        }
+        packet
+    }
 }
 
 // ---------------------------------------------------------------------------------------------

@@ -104,9 +104,9 @@ impl Site {
                 rtep::frame(record, store, from, to, &heard.octets, out, told)
             });
             assert!(
-                [0, 13, 22].contains(&done.number),
+                [0, 13, 22].contains(&rtep::number(done.number)),
                 "a frame of a station gets {}",
-                done.number
+                rtep::number(done.number)
             );
             self.strikes(own, done.struck);
             if done.sent.is_some() {

@@ -341,6 +341,8 @@ struct Comparison {
     fast_kept: Kept,
     calls: u64,
     numbers: BTreeMap<(Event, u32), u64>,
+    /// Beside 12.
+    offsets: BTreeMap<u32, u64>,
     moves: BTreeMap<(u8, Event), u64>,
     happened: BTreeMap<&'static str, u64>,
 }
@@ -359,6 +361,7 @@ impl Comparison {
             fast_kept: Kept::new(&mut Random::new(seed)),
             calls: 0,
             numbers: BTreeMap::new(),
+            offsets: BTreeMap::new(),
             moves: BTreeMap::new(),
             happened: BTreeMap::new(),
         }
@@ -398,7 +401,10 @@ impl Comparison {
 
         self.calls += 1;
         let event = call.event();
-        *self.numbers.entry((event, expected)).or_default() += 1;
+        *self.numbers.entry((event, rtep::number(expected))).or_default() += 1;
+        if rtep::number(expected) == 12 {
+            *self.offsets.entry(rtep::offset(expected)).or_default() += 1;
+        }
         if event != Event::Make && expected != 9 && expected != 35 {
             let state = self.kept_before.record()[STATE];
             *self.moves.entry((state, event)).or_default() += 1;
@@ -431,7 +437,8 @@ impl Comparison {
                 *text += &format!("\n  {what}[{at}]: library {library:x}, plain {plain:x}");
             }
         }
-        let mut text = format!("\n  number: library {given}, plain {expected}");
+        let words = |given| format!("{} at {}", rtep::number(given), rtep::offset(given));
+        let mut text = format!("\n  number: library {}, plain {}", words(given), words(expected));
         first(&mut text, "record", AROUND, &both.library.record, &both.plain.record);
         first(&mut text, "store", AROUND, &both.library.store, &both.plain.store);
         first(&mut text, "out", AROUND, &self.library.out, &self.plain.out);
@@ -651,7 +658,8 @@ impl Comparison {
     /// Prints the figures.
     fn close(&self, figures: &str) {
         if std::env::var_os("RTEP_FIGURES").is_some() {
-            println!("{:#?}\n{:#?}\n{:#?}", self.numbers, self.moves, self.happened);
+            println!("{:#?}\n{:#?}", self.numbers, self.offsets);
+            println!("{:#?}\n{:#?}", self.moves, self.happened);
         }
         let refused: u64 =
             self.numbers.iter().filter(|((_, number), _)| *number != 0).map(|(_, n)| n).sum();
@@ -675,6 +683,14 @@ impl Comparison {
             for (number, count) in given {
                 assert!(count >= EACH, "{}: {event:?} gave {number} only {count} times", self.what);
             }
+        }
+    }
+
+    /// Demands 12 at every field, at pad octets and at both lengths.
+    fn demand_offsets(&self) {
+        for offset in [0, 1, 4, 6, 10, 16, 22, 45] {
+            let count = self.offsets.get(&offset).copied().unwrap_or(0);
+            assert!(count > 0, "{}: 12 never came with {offset}: {:?}", self.what, self.offsets);
         }
     }
 
@@ -1363,6 +1379,7 @@ fn histories() {
         .sum();
     comparison.close(&format!("{count} of them, {}, {struck} strikes", figures.join(", ")));
     comparison.demand_numbers(&EVERY);
+    comparison.demand_offsets();
     comparison.demand_moves();
     comparison.demand_happened(&IN_HISTORIES);
 }
@@ -1423,6 +1440,7 @@ fn made_up_records() {
     }
     comparison.close(&format!("{records} records"));
     comparison.demand_numbers(&EVERY);
+    comparison.demand_offsets();
     comparison.demand_moves();
     comparison.demand_happened(&ON_MADE_UP);
 }
@@ -1666,7 +1684,7 @@ fn first_of_every_set(call: Call, state: u8, faults: &[Fault], comparison: &mut 
         let expected = chosen().next().map_or(0, |(_, (number, _))| *number);
         both.edit(0, &scene.record);
         let given = comparison.call(random, both, &scene.call, scene.lens);
-        assert_eq!(given, expected, "{}: set {set:b}", call.text());
+        assert_eq!(rtep::number(given), expected, "{}: set {set:b}", call.text());
     }
 }
 

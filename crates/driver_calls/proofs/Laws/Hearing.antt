@@ -8,8 +8,9 @@ use borrow.Author.Tests.{eq-eqb, ne-eqb}
 use lib.Dec.{eqb}
 use lib.ListN.{length, take}
 use Rattle.codec.specs.Ring.{position}
-use Rattle.packet_codec.specs.Packet.{informationIn, readPacket}
+use Rattle.packet_codec.specs.Packet.{informationIn, readPacket, readNumber}
 use Rattle.packet_codec.specs.declared.packet.Packet.{Packet}
+use Rattle.packet_codec.specs.declared.reading.Refusal.{Refusal as Why}
 use Rattle.packet_codec.specs.declared.reading.Read.{Read}
 use Rattle.packet_codec.specs.declared.reading.Read.the-variants.{Refused, Good}
 use Rattle.parts.specs.Moves.{moveOf, runs}
@@ -62,8 +63,8 @@ module _ (s : Station) (ring : List ℕ) (from to : ℕ) (packet : List ℕ) {m 
           ap (decidedRead s ring (position ring from) (position ring to)) read
           ∙ sym (pick-true _ _ (eq-eqb _ _ (sym looked ∙ run)) ∙ pick-true _ _ (eq-eqb _ _ (sym checked-at ∙ passed)))
 
-      pub packet-unread : (n : ℕ) → r ≡ Refused n → refused (s .turn) n ≡ decidedPacket s ring from to packet
-      packet-unread n e = ap (decidedRead s ring (position ring from) (position ring to)) (sym e) ∙ read-then
+      pub packet-unread : (why : Why) (n : ℕ) → r ≡ Refused why → n ≡ readNumber (Refused why) → refused (s .turn) n ≡ decidedPacket s ring from to packet
+      packet-unread why n e h = rw h (ap (decidedRead s ring (position ring from) (position ring to)) (sym e) ∙ read-then)
 
       pub packet-read : (p : Packet) (g : Frame) → r ≡ Good p → g ≡ frameOf ring p → decided s g f t ≡ decidedPacket s ring from to packet
       packet-read p g e h =
@@ -86,7 +87,7 @@ packet-so s ring from to packet = go (eqb (moveOf (stateOf s) Heard) runs) (eqb 
     go : (a b : Bool) (r : Read)
         → Decides s (pick a (pick b (heardThen s ring f t r) (answered s (checks s f t))) (answered s (moveOf (stateOf s) Heard)))
         (pick a (pick b (decidedRead s ring f t r) (refused (s .turn) (checks s f t))) (refused (s .turn) (moveOf (stateOf s) Heard)))
-    go true true (Refused n) = refused-so s n
+    go true true (Refused why) = refused-so s (readNumber (Refused why))
     go true true (Good p) = frame-so s (frameOf ring p) f t
     go true false r = refused-so s (checks s f t)
     go false b r = refused-so s (moveOf (stateOf s) Heard)

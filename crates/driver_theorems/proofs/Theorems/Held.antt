@@ -96,7 +96,7 @@ made-sure rec file own rec′ m =
 -- a heard packet is refused, or its frame is fit and of small numbers
 read-sure : (rec : List ℕ) → Sure rec → (from to : ℕ) (packet : List ℕ) → Octets packet → (d : Read) → readPacket (ringIn rec) packet ≡ d
     → Keeps rec (heardThen (stationIn rec) (ringIn rec) from to d)
-read-sure rec h from to packet o (Refused number) e = (h .whole, h .small)
+read-sure rec h from to packet o (Refused why) e = (h .whole, h .small)
 read-sure rec h from to packet o (Good p) e =
     let s : Station = stationIn rec in
     let f = heard-fit (ringIn rec) packet p o e in

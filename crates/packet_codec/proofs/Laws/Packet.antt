@@ -2,7 +2,7 @@
 use mathlib.Core.Path.{_≡_, refl, sym, ap, _∙_}
 use mathlib.Core.Bool.{Bool, true, false, cond, not, false≢true}
 use mathlib.Core.List.{List, [], _∷_, _++_}
-use Prim.Native.Nat.{ℕ, zero, suc, _+_, _-_, _<_, _≤_, zero-le}
+use Prim.Native.Nat.{ℕ, zero, suc, _+_, _-_, _*_, _/_, _<_, _≤_, zero-le}
 use native.Mathlib.Nat.{add-zero, add-suc, suc-add}
 use native.Mathlib.Omega.{arith}
 use borrow.Author.Tests.{eq-eqb, ne-eqb, lt-ltb, le-ltb, ltb-false, eqb-true, not-false}
@@ -15,11 +15,13 @@ use Rattle.packet_codec.specs.declared.fields.Looked.{Looked}
 use Rattle.packet_codec.specs.declared.fields.Looked.the-variants.{Sound, Bad}
 use Rattle.packet_codec.specs.declared.packet.Packet.{Packet}
 use Rattle.packet_codec.specs.declared.packet.Packet.the-variants.{Token, Transmit, Information}
-use Rattle.packet_codec.specs.Packet.{fieldTests, padTests, lengthTests, restTests, readTests, writeTests, informationLength, padFrom, lengthFrom, size, isBad, identifier, shortOf, headOf, packetOf, readPacket, readNumber, writeRefusal}
+use Rattle.packet_codec.specs.Packet.{fieldTests, padTests, lengthTests, restTests, readTests, writeTests, informationLength, padFrom, lengthFrom, size, isBad, identifier, shortOf, headOf, packetOf, lookedRead, readPacket, readNumber, lookNumber, refusalIn, writeRefusal}
+use Rattle.packet_codec.specs.declared.reading.Refusal.{Refusal}
+use Rattle.packet_codec.specs.declared.reading.Refusal.the-variants.{Size, Identifier, BadAt}
 use Rattle.packet_codec.specs.declared.reading.Read.{Read}
 use Rattle.packet_codec.specs.declared.reading.Read.the-variants.{Refused, Good}
 use Rattle.codec.proofs.Laws.Octets.{length-part, length-zeros}
-use Rattle.codec.proofs.Laws.Order.{Apart, NoneHolds, first-append, none-holds, first-none, first-some, first-passed, apart-append}
+use Rattle.codec.proofs.Laws.Order.{Apart, NoneHolds, first-append, none-gives, none-holds, first-none, first-some, first-passed, apart-append}
 
 -- ---- one list of tests after another
 
@@ -107,47 +109,91 @@ pad-is s from k h n =
     let b : i < k = rw (length-part s from k h) at hi in
     getD-take k (drop from s) i 0 b ∙ getD-drop from s i 0 ∙ pads-zero s from k n i b ∙ sym (getD-replicate k i 0 0 b))
 
+-- ---- what reading gives
+
+-- an answer that size and identifier do not give comes from the look at the fields
+pub record Late (ring s : List ℕ) (r : Read) : Type 0 where
+  pub long : 46 ≤ length s
+  pub short : length s ≤ 1500
+  pub low : 1 ≤ identifier s
+  pub high : identifier s ≤ 3
+  pub looked : lookedRead (packetOf s) (firstOf Sound (readTests ring s (packetOf s))) ≡ r
+
+pub read-late : (ring s : List ℕ) (r : Read) → (Refused Size ≡ r → ⊥) → (Refused Identifier ≡ r → ⊥) → readPacket ring s ≡ r → Late ring s r
+unfolding readPacket
+read-late ring s r z i e =
+    let last : Read = lookedRead (packetOf s) (firstOf Sound (readTests ring s (packetOf s))) in
+    let ts : List (Bool × Read) =
+    (ltb (length s) 46, Refused Size) ∷ (ltb 1500 (length s), Refused Size) ∷ (ltb (identifier s) 1, Refused Identifier) ∷ (ltb 3 (identifier s), Refused Identifier) ∷ [] in
+    let n = none-gives last r ts (z, (z, (i, (i, tt)))) e in
+    record {
+      long = ltb-false _ _ (n .0);
+      short = ltb-false _ _ (n .1 .0);
+      low = ltb-false _ _ (n .1 .1 .0);
+      high = ltb-false _ _ (n .1 .1 .1 .0);
+      looked = sym (first-passed last ts n) ∙ e;
+    }
+
+-- past the tests of size and identifier it is the look at the fields that decides
+pub read-fields : (ring s : List ℕ) (l : Looked) → 46 ≤ length s → length s ≤ 1500 → 1 ≤ identifier s → identifier s ≤ 3
+    → l ≡ firstOf Sound (readTests ring s (packetOf s)) → readPacket ring s ≡ lookedRead (packetOf s) l
+unfolding readPacket
+read-fields ring s l a b c d e = simp (le-ltb _ _ a, le-ltb _ _ b, le-ltb _ _ c, le-ltb _ _ d) (ap (lookedRead (packetOf s)) (sym e))
+
+-- ---- a packet
+
+not-good : (why : Refusal) (p : Packet) → Refused why ≡ Good p → ⊥
+not-good why p e = let z : _≡_ {A = ℕ} 0 1 = cc in omega arith
+
+pub good-late : (ring s : List ℕ) (p : Packet) → readPacket ring s ≡ Good p → Late ring s (Good p)
+good-late ring s p e = read-late ring s (Good p) (not-good Size p) (not-good Identifier p) e
+
+-- nothing bad was found, and the packet is that of the fields
+pub looked-good : (q p : Packet) (l : Looked) → lookedRead q l ≡ Good p → (l ≡ Sound) × (q ≡ p)
+looked-good q p Sound e = (refl, cc (e))
+looked-good q p (Bad k) e = absurd (not-good (BadAt k) p e)
+
 -- ---- the number of what reading gives
 
--- each test's answer is a refusal
-abbrev Refusing : List (Bool × Read) → Type 0
-Refusing [] = Unit {0}
-Refusing (t ∷ ts) = (readNumber (t .1) ≡ 0 → ⊥) × Refusing ts
+-- a refusal has another number than 0
+refusal-some : (why : Refusal) → readNumber (Refused why) ≡ 0 → ⊥
+refusal-some Size e = omega arith
+refusal-some Identifier e = omega arith
+refusal-some (BadAt k) e = omega arith
 
-none-refuses : (p : Packet) (ts : List (Bool × Read)) → Refusing ts → readNumber (firstOf (Good p) ts) ≡ 0 → NoneHolds ts
-none-refuses p [] a e = tt
-none-refuses p (t ∷ ts) a e = go (t .0) refl e (none-refuses p ts (a .1))
-  where
-    go : (b : Bool) → t .0 ≡ b → readNumber (cond b (t .1) (firstOf (Good p) ts)) ≡ 0 → (readNumber (firstOf (Good p) ts) ≡ 0 → NoneHolds ts)
-        → (t .0 ≡ false) × NoneHolds ts
-    go true h e′ rest = absurd (a .0 e′)
-    go false h e′ rest = (h, rest e′)
+-- and its number stands for no other
+refusal-back : (why : Refusal) → refusalIn (readNumber (Refused why)) ≡ why
+unfolding refusalIn
+refusal-back Size = refl
+refusal-back Identifier = refl
+refusal-back (BadAt k) =
+    let at : (12 + 65536 * k) / 65536 ≡ k = omega arith in
+    simp (ne-eqb (12 + 65536 * k) 10 (λ e. omega arith), ne-eqb (12 + 65536 * k) 11 (λ e. omega arith)) (ap BadAt at)
 
-abbrev tests : List ℕ → List ℕ → List (Bool × Read)
-tests ring s =
-    (ltb (length s) 46, Refused 10)
-    ∷ (ltb 1500 (length s), Refused 10)
-    ∷ (ltb (identifier s) 1, Refused 11)
-    ∷ (ltb 3 (identifier s), Refused 11)
-    ∷ (isBad (firstOf Sound (readTests ring s (packetOf s))), Refused 12)
-    ∷ []
+look-number : (p : Packet) (l : Looked) → lookNumber l ≡ readNumber (lookedRead p l)
+look-number p Sound = refl
+look-number p (Bad k) = refl
 
-read-none : (ring s : List ℕ) → readNumber (readPacket ring s) ≡ 0 → NoneHolds (tests ring s)
-unfolding readPacket
-read-none ring s e = none-refuses (packetOf s) (tests ring s) ((λ z. absurd (omega arith)), ((λ z. absurd (omega arith)), ((λ z. absurd (omega arith)), ((λ z. absurd (omega arith)), ((λ z. absurd (omega arith)), tt))))) e
+pub fields-number : (ring s : List ℕ) (l : Looked) → 46 ≤ length s → length s ≤ 1500 → 1 ≤ identifier s → identifier s ≤ 3
+    → l ≡ firstOf Sound (readTests ring s (packetOf s)) → lookNumber l ≡ readNumber (readPacket ring s)
+fields-number ring s l a b c d e = look-number (packetOf s) l ∙ ap readNumber (sym (read-fields ring s l a b c d e))
+
+number-good : (r : Read) → readNumber r ≡ 0 → (p : Packet) → ((q : Packet) → r ≡ Good q → p ≡ q) → r ≡ Good p
+number-good (Refused why) z p f = absurd (refusal-some why z)
+number-good (Good q) z p f = ap Good (sym (f q refl))
 
 pub read-good : (ring s : List ℕ) → readNumber (readPacket ring s) ≡ 0 → readPacket ring s ≡ Good (packetOf s)
-unfolding readPacket
-read-good ring s e = first-passed (Good (packetOf s)) (tests ring s) (read-none ring s e)
+read-good ring s e =
+    number-good (readPacket ring s) e (packetOf s) (λ q h. looked-good (packetOf s) q (firstOf Sound (readTests ring s (packetOf s))) (good-late ring s q h .looked) .1)
 
 pub read-long : (ring s : List ℕ) → readNumber (readPacket ring s) ≡ 0 → 46 ≤ length s
-read-long ring s e = ltb-false (length s) 46 (read-none ring s e .0)
+read-long ring s e = good-late ring s (packetOf s) (read-good ring s e) .long
 
-pub read-refused : (ring s : List ℕ) (number : ℕ) → number ≡ readNumber (readPacket ring s) → (number ≡ 0 → ⊥) → readPacket ring s ≡ Refused number
+pub read-refused : (ring s : List ℕ) (number : ℕ) → number ≡ readNumber (readPacket ring s) → (number ≡ 0 → ⊥) → readPacket ring s ≡ Refused (refusalIn number)
 read-refused ring s number e n = go (readPacket ring s) e
   where
-    go : (r : Read) → number ≡ readNumber r → r ≡ Refused number
-    go (Refused k) h = ap Refused (sym h)
+    go : (r : Read) → number ≡ readNumber r → r ≡ Refused (refusalIn number)
+    go (Refused why) h = ap Refused (sym (ap refusalIn h ∙ refusal-back why))
     go (Good p) h = absurd (n h)
 
 -- ---- which packet the octets make
@@ -163,14 +209,3 @@ packet-transmit s n e = simp (ne-eqb _ _ n, eq-eqb _ _ e)
 pub packet-information : (s : List ℕ) → (identifier s ≡ 1 → ⊥) → (identifier s ≡ 2 → ⊥) → packetOf s ≡ Information (headOf s)
 unfolding packetOf
 packet-information s n m = simp (ne-eqb _ _ n, ne-eqb _ _ m)
-
--- past the tests of length and identifier it is the look at the fields that decides
-pub read-fields : (ring s : List ℕ) (l : Looked) → 46 ≤ length s → length s ≤ 1500 → 1 ≤ identifier s → identifier s ≤ 3
-    → l ≡ firstOf Sound (readTests ring s (packetOf s)) → cond (isBad l) 12 0 ≡ readNumber (readPacket ring s)
-unfolding readPacket
-read-fields ring s l a b c d e = simp (le-ltb _ _ a, le-ltb _ _ b, le-ltb _ _ c, le-ltb _ _ d) (go l e)
-  where
-    go : (l : Looked) → l ≡ firstOf Sound (readTests ring s (packetOf s))
-        → cond (isBad l) 12 0 ≡ readNumber (cond (isBad (firstOf Sound (readTests ring s (packetOf s)))) (Refused 12) (Good (packetOf s)))
-    go Sound h = ap (λ (x : Looked). readNumber (cond (isBad x) (Refused 12) (Good (packetOf s)))) h
-    go (Bad k) h = ap (λ (x : Looked). readNumber (cond (isBad x) (Refused 12) (Good (packetOf s)))) h

@@ -16,13 +16,13 @@ use Rattle.packet_codec.specs.declared.packet.Packet.{Packet}
 use Rattle.packet_codec.specs.declared.packet.Packet.the-variants.{Token, Transmit, Information}
 use Rattle.packet_codec.specs.declared.fields.Looked.the-variants.{Sound, Bad}
 use Rattle.packet_codec.specs.declared.reading.Read.{Read}
-use Rattle.packet_codec.specs.declared.reading.Read.the-variants.{Refused, Good}
+use Rattle.packet_codec.specs.declared.reading.Read.the-variants.{Good}
 use Rattle.packet_codec.specs.Packet.{shortOf, headOf, packetOf, packetOctets, shortOctets, headOctets, informationOctets, informationIn, informationPart, informationLength, identifier, padFrom, lengthFrom, size, belongs, failingBad, fieldTests, padTests, lengthTests, restTests, writeTests, readTests, Fit, readPacket, isBad}
 use Rattle.packet_codec.specs.Typed.{Typed, TypedPacket}
 use Rattle.packet_codec.specs.RoundTrip.{ReadsAs}
 use Rattle.codec.proofs.Laws.Octets.{back, length-zeros}
 use Rattle.codec.proofs.Laws.Order.{NoneHolds, none-holds, none-append, none-split, first-passed}
-use Rattle.packet_codec.proofs.Laws.Packet.{write-apart, pads-none, fit-length}
+use Rattle.packet_codec.proofs.Laws.Packet.{write-apart, pads-none, fit-length, read-fields}
 
 -- an address that belongs has 48 bits
 belongs-fits : (ring : List ℕ) (a : ℕ) → belongs ring a ≡ true → a < 2 ^ 48
@@ -65,16 +65,12 @@ fields-pass ring p info e =
 -- octets whose fields make a packet that is fit, with its pad and its length, read as that packet
 passes : (ring s : List ℕ) (p : Packet) → NoneHolds (fieldTests ring p) → packetOf s ≡ p → 1 ≤ identifier s → identifier s ≤ 3 → length s ≡ size p → size p ≤ 1500
     → ((i : ℕ) → getD s (padFrom p + i) 0 ≡ 0) → readPacket ring s ≡ Good p
-unfolding readPacket
 passes ring s p fields e low high long most pad =
     let rest : NoneHolds (restTests s p) =
     none-append (padTests s (padFrom p) (46 - padFrom p)) (lengthTests (length s) (size p) (lengthFrom p)) (pads-none s (padFrom p) (46 - padFrom p) pad)
     (ap not (eq-eqb (length s) (size p) long), tt) in
     let sound : firstOf Sound (readTests ring s p) ≡ Sound = first-passed Sound (readTests ring s p) (none-append (fieldTests ring p) (restTests s p) fields rest) in
-    let good : isBad (firstOf Sound (readTests ring s (packetOf s))) ≡ false = rw (e, sound) in
-    first-passed (Good (packetOf s))
-    ((ltb (length s) 46, Refused 10) ∷ (ltb 1500 (length s), Refused 10) ∷ (ltb (identifier s) 1, Refused 11) ∷ (ltb 3 (identifier s), Refused 11) ∷ (isBad (firstOf Sound (readTests ring s (packetOf s))), Refused 12) ∷ [])
-    (le-ltb (length s) 46 (omega arith), (le-ltb 1500 (length s) (omega arith), (le-ltb _ _ low, (le-ltb _ _ high, (good, tt)))))
+    read-fields ring s Sound (omega arith) (omega arith) low high (sym (ap (λ (q : Packet). firstOf Sound (readTests ring s q)) e ∙ sound))
     ∙ ap Good e
 
 -- ---- each kind

@@ -16,18 +16,15 @@ use Rattle.packet_codec.specs.declared.packet.Packet.{Packet}
 use Rattle.packet_codec.specs.declared.packet.Packet.the-variants.{Token, Transmit, Information}
 use Rattle.packet_codec.specs.declared.fields.Looked.the-variants.{Sound, Bad}
 use Rattle.packet_codec.specs.declared.reading.Read.{Read}
-use Rattle.packet_codec.specs.declared.reading.Read.the-variants.{Refused, Good}
-use Rattle.packet_codec.specs.Packet.{identifier, shortOf, headOf, packetOf, shortOctets, headOctets, informationOctets, packetOctets, informationIn, informationPart, informationLength, padFrom, lengthFrom, size, fieldTests, padTests, lengthTests, restTests, readTests, writeTests, Fit, isBad, readPacket}
+use Rattle.packet_codec.specs.declared.reading.Read.the-variants.{Good}
+use Rattle.packet_codec.specs.Packet.{identifier, shortOf, headOf, packetOf, shortOctets, headOctets, informationOctets, packetOctets, informationIn, informationPart, informationLength, padFrom, lengthFrom, size, fieldTests, padTests, lengthTests, restTests, readTests, writeTests, Fit, readPacket}
 use Rattle.packet_codec.specs.RoundTrip.{WritesAs}
 use Rattle.packet_codec.specs.Typed.{Typed}
 use Rattle.codec.proofs.Laws.Octets.{field-then, octets-take, octets-drop, number-below, length-part}
 use Rattle.codec.proofs.Laws.Order.{NoneHolds, none-gives, none-holds, none-append, none-split, first-passed}
-use Rattle.packet_codec.proofs.Laws.Packet.{sound-of, read-apart, pad-is}
+use Rattle.packet_codec.proofs.Laws.Packet.{good-late, looked-good, read-apart, pad-is}
 
 -- ---- what reading says
-
-not-good : (k : ℕ) (p : Packet) → Refused k ≡ Good p → ⊥
-not-good k p e = let z : _≡_ {A = ℕ} 0 1 = cc in omega arith
 
 -- what octets are that read as the packet p
 record Passed (ring s : List ℕ) (p : Packet) : Type 0 where
@@ -40,21 +37,17 @@ record Passed (ring s : List ℕ) (p : Packet) : Type 0 where
   sized : length s ≡ size p
 
 passed : (ring s : List ℕ) (p : Packet) → readPacket ring s ≡ Good p → Passed ring s p
-unfolding readPacket
 passed ring s p e =
-    let tests : List (Bool × Read) =
-    (ltb (length s) 46, Refused 10) ∷ (ltb 1500 (length s), Refused 10) ∷ (ltb (identifier s) 1, Refused 11) ∷ (ltb 3 (identifier s), Refused 11) ∷ (isBad (firstOf Sound (readTests ring s (packetOf s))), Refused 12) ∷ [] in
-    let n = none-gives (Good (packetOf s)) (Good p) tests (not-good 10 p, (not-good 10 p, (not-good 11 p, (not-good 11 p, (not-good 12 p, tt))))) e in
-    let same : Good (packetOf s) ≡ Good p = sym (first-passed (Good (packetOf s)) tests n) ∙ e in
-    let q : packetOf s ≡ p = cc (same) in
-    let sound : firstOf Sound (readTests ring s p) ≡ Sound = ap (λ r. firstOf Sound (readTests ring s r)) (sym q) ∙ sound-of _ (n .1 .1 .1 .1 .0) in
+    let g = good-late ring s p e in
+    let looked = looked-good (packetOf s) p _ (g .looked) in
+    let sound : firstOf Sound (readTests ring s p) ≡ Sound = ap (λ r. firstOf Sound (readTests ring s r)) (sym (looked .1)) ∙ looked .0 in
     let all = none-split (fieldTests ring p) (restTests s p) (none-holds Sound (readTests ring s p) (read-apart ring s p) sound) in
     let rest = none-split (padTests s (padFrom p) (46 - padFrom p)) (lengthTests (length s) (size p) (lengthFrom p)) (all .1) in
     record {
-      is = q;
-      long = ltb-false _ _ (n .0);
-      low = ltb-false _ _ (n .1 .1 .0);
-      high = ltb-false _ _ (n .1 .1 .1 .0);
+      is = looked .1;
+      long = g .long;
+      low = g .low;
+      high = g .high;
       fields = all .0;
       pad = rest .0;
       sized = eqb-true _ _ (not-false _ (rest .1 .0));

@@ -203,7 +203,7 @@ module _ (s : Station) (array : length (s .receives .items) ≡ 16) (ring packet
   HearsAll a = (m : Message) → a .payload ≡ Of m → Hears s ring packet m a
 
   then-hears : (from to : ℕ) (d : Read) → readPacket ring packet ≡ d → HearsAll (heardThen s ring from to d)
-  then-hears from to (Refused number) r m e = absurd (no-payload e)
+  then-hears from to (Refused why) r m e = absurd (no-payload e)
   then-hears from to (Good p) r m e = record { from-packet = p; reads = r; stores = frame-stores s array ring p from to m e }
 
   pub packet-hears : (from to : ℕ) → HearsAll (packetRule s ring from to packet)

@@ -8,7 +8,7 @@ use native.Mathlib.Omega.{arith}
 use lib.Dec.{ltb, eqb}
 use lib.ListN.{length}
 use Rattle.codec.specs.Ring.{position}
-use Rattle.packet_codec.specs.Packet.{readPacket}
+use Rattle.packet_codec.specs.Packet.{readPacket, readNumber}
 use Rattle.packet_codec.specs.declared.reading.Read.{Read}
 use Rattle.packet_codec.specs.declared.reading.Read.the-variants.{Refused, Good}
 use Rattle.parts.specs.Messages.{all}
@@ -68,7 +68,7 @@ unfolding packetRule moved unless
 packet-awaits s ring from at packet = moved-awaits s _ _ _ (moved-awaits s _ _ _ (go (readPacket ring packet)))
   where
     go : (d : Read) → AwaitsSent (heardThen s ring (position ring from) (position ring at) d)
-    go (Refused number) = quiet-awaits s number
+    go (Refused why) = quiet-awaits s (readNumber (Refused why))
     go (Good p) = frame-awaits s (frameOf ring p) _ _
 
 on-timer-awaits : (s : Station) (d : Dispatch) → awaitedOf s ≡ d → AwaitsSent (onTimer s d)

@@ -188,8 +188,9 @@ impl Bench {
         plain.store.copy_from_slice(&library.store);
         (plain.out, plain.room, plain.told, plain.taken) =
             (library.out, library.room, library.told, library.taken);
-        assert_eq!(on_library(call, &mut one, library), number, "{what}");
-        assert_eq!(on_plain(call, &mut other, plain), number, "{what}");
+        let given = on_library(call, &mut one, library);
+        assert_eq!(rtep::number(given), number, "{what}");
+        assert_eq!(on_plain(call, &mut other, plain), given, "{what}");
         assert_eq!(one, other, "{what}");
         assert_eq!((library.out, library.room), (plain.out, plain.room), "{what}");
         assert_eq!((library.told, library.taken), (plain.told, plain.taken), "{what}");

@@ -758,8 +758,9 @@ pub fn frame(
         if from == to || !station.live[from] || from == station.own {
             return Err(13);
         }
-        let read = super::read(&station.ring.addresses, packet);
-        let packet = read.map_err(|faults| faults[0].number())?;
+        let members = &station.ring.addresses;
+        let packet =
+            super::read(members, packet).map_err(|_| super::read_answer(members, packet))?;
         let answer = station.frame(&frame_of(&station.ring, from, to, &packet));
         settle(&station, &answer, record, store, out, told);
         if let Some(message) = answer.stored {

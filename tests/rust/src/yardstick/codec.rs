@@ -92,6 +92,18 @@ fn zero(pad: &[u8]) -> bool {
     pad.iter().all(|octet| *octet == 0)
 }
 
+/// 12, with the offset of what is bad.
+#[inline]
+fn bad_at(at: usize) -> u32 {
+    (at as u32) << 16 | 12
+}
+
+/// 12, with the offset of the first octet from `from` on that is not zero.
+#[cold]
+fn bad_pad(packet: &[u8], from: usize) -> u32 {
+    bad_at(from + packet[from..].iter().take_while(|octet| **octet == 0).count())
+}
+
 /// Reads a packet whose members `member` knows; `failing` has a token's failing station, or 0.
 #[inline]
 pub fn read<Member, Failing>(
@@ -107,34 +119,47 @@ pub fn read<Member, Failing>(
     let number = u16::from_be_bytes(*number);
     match identifier {
         1 | 2 => {
-            let packet: &[u8; SHORTEST] = packet.try_into().map_err(|_| 12u32)?;
-            let master = member(address(packet[4..10].try_into().unwrap())).ok_or(12u32)?;
-            let fails = address(packet[10..16].try_into().unwrap());
-            let named = member(address(packet[16..22].try_into().unwrap())).ok_or(12u32)?;
-            if !zero(&packet[22..]) {
-                return Err(12);
+            let short = packet.first_chunk::<SHORTEST>().ok_or(10u32)?;
+            if identifier == 2 && priority == 0 {
+                return Err(bad_at(1));
             }
-            if identifier == 1 {
-                let failing = failing(fails).ok_or(12u32)?;
-                Ok(Packet::Token { priority, number, master, failing, named })
-            } else {
-                if fails != 0 || priority == 0 {
-                    return Err(12);
-                }
-                Ok(Packet::Transmit { priority, number, master, named })
+            let master = member(address(short[4..10].try_into().unwrap())).ok_or(bad_at(4))?;
+            let fails = address(short[10..16].try_into().unwrap());
+            let failing = match identifier {
+                1 => Some(failing(fails).ok_or(bad_at(10))?),
+                _ if fails != 0 => return Err(bad_at(10)),
+                _ => None,
+            };
+            let named = member(address(short[16..22].try_into().unwrap())).ok_or(bad_at(16))?;
+            if !zero(&short[22..]) {
+                return Err(bad_pad(packet, 22));
             }
+            if packet.len() != SHORTEST {
+                return Err(bad_at(0));
+            }
+            Ok(match failing {
+                Some(failing) => Packet::Token { priority, number, master, failing, named },
+                None => Packet::Transmit { priority, number, master, named },
+            })
         }
         3 => {
             let channel = u16::from_be_bytes([packet[4], packet[5]]);
             let length = u16::from_be_bytes([packet[6], packet[7]]);
             let end = 8 + usize::from(length);
-            if priority == 0
-                || channel > 7
-                || usize::from(length) > MOST_INFORMATION
-                || packet.len() != SHORTEST.max(end)
-                || !zero(&packet[end..])
-            {
-                return Err(12);
+            if priority == 0 {
+                return Err(bad_at(1));
+            }
+            if channel > 7 {
+                return Err(bad_at(4));
+            }
+            if usize::from(length) > MOST_INFORMATION {
+                return Err(bad_at(6));
+            }
+            if !zero(packet.get(end..SHORTEST).unwrap_or_default()) {
+                return Err(bad_pad(packet, end));
+            }
+            if packet.len() != SHORTEST.max(end) {
+                return Err(bad_at(6));
             }
             Ok(Packet::Information { priority, number, channel: channel as u8, length })
         }

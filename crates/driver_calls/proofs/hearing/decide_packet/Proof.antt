@@ -32,8 +32,11 @@ returns-2 c = c .refuse2 .ensures ∙ packet-refused _ _ _ _ _ (c .before .befor
 read-packet-requires : tie.Need-read-packet-requires
 read-packet-requires c κs = search needs
 
-enum-known-number : tie.Need-enum-known-number
-enum-known-number c = search needs
+enum-known-why : tie.Need-enum-known-why
+enum-known-why c = search needs
+
+number-of-requires : tie.Need-number-of-requires
+number-of-requires c κs = search needs
 
 refuse-requires-3 : tie.Need-refuse-requires-3
 refuse-requires-3 c κs = search needs
@@ -48,7 +51,7 @@ decide-requires : tie.Need-decide-requires
 decide-requires c κs = search needs
 
 returns-3 : tie.Need-returns-3
-returns-3 c = c .refuse3 .ensures ∙ packet-unread _ _ _ _ _ (c .before .before .before .before .before .before .before .before .before .before .move-of .ensures) (c .before .before .before .before .before .before .before .before .before .if1 .left) (c .before .before .before .before .before .before .before .before .seat .ensures) (c .before .before .before .before .before .before .before .seat2 .ensures) (c .before .before .before .before .before .before .checks .ensures) (c .before .before .before .before .before .if2 .left) (c .before .before .before .before .read-packet .ensures) _ (c .before .before .number .given .1)
+returns-3 c = c .refuse3 .ensures ∙ packet-unread _ _ _ _ _ (c .before .before .before .before .before .before .before .before .before .before .before .move-of .ensures) (c .before .before .before .before .before .before .before .before .before .before .if1 .left) (c .before .before .before .before .before .before .before .before .before .seat .ensures) (c .before .before .before .before .before .before .before .before .seat2 .ensures) (c .before .before .before .before .before .before .before .checks .ensures) (c .before .before .before .before .before .before .if2 .left) (c .before .before .before .before .before .read-packet .ensures) _ _ (c .before .before .before .why .given .1) (c .before .number-of .ensures)
 
 returns-4 : tie.Need-returns-4
 returns-4 c = c .decide .ensures ∙ packet-read _ _ _ _ _ (c .before .before .before .before .before .before .before .before .before .before .before .move-of .ensures) (c .before .before .before .before .before .before .before .before .before .before .if1 .left) (c .before .before .before .before .before .before .before .before .before .seat .ensures) (c .before .before .before .before .before .before .before .before .seat2 .ensures) (c .before .before .before .before .before .before .before .checks .ensures) (c .before .before .before .before .before .before .if2 .left) (c .before .before .before .before .before .read-packet .ensures) _ _ (c .before .before .before .p .given .1) (c .before .frame-of .ensures)
@@ -66,7 +69,8 @@ decide-packet-spec =
     refuse-requires-2
     returns-2
     read-packet-requires
-    enum-known-number
+    enum-known-why
+    number-of-requires
     refuse-requires-3
     enum-known-p
     frame-of-requires

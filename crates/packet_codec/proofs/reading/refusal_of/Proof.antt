@@ -3,8 +3,9 @@ use mathlib.Core.Path.{_≡_, refl, sym, ap, _∙_}
 use borrow.Author.Tests.{lt-ltb, le-ltb}
 use Rattle.codec.specs.Order.{firstOf}
 use Rattle.packet_codec.specs.declared.fields.Looked.the-variants.{Sound, Bad}
-use Rattle.packet_codec.specs.Packet.{packetOf, readTests, isBad, readPacket, readNumber}
-use Rattle.packet_codec.proofs.Laws.Packet.{read-fields}
+use Rattle.packet_codec.specs.Packet.{packetOf, readPacket}
+use Rattle.packet_codec.proofs.Laws.Packet.{fields-number}
+use Rattle.packet_codec.proofs.Laws.Looked.{looked-fits}
 use borrow.Author.Needs.{needs}
 use Rattle.packet_codec.proofs.reading.refusal_of.Statement.{statement}
 use Rattle.packet_codec.proofs.reading.refusal_of.Tie as tie
@@ -31,20 +32,22 @@ returns-4 c = simp (le-ltb _ _ (c .before .before .before .before .if1 .left), l
 look-long-requires : tie.Need-look-long-requires
 look-long-requires c κs = search needs
 
-number-of-requires : tie.Need-number-of-requires
-number-of-requires c κs = search needs
+look-number-requires : tie.Need-look-number-requires
+look-number-requires c κs = let a = c .before .before .before .before .before .before .before .before .before .args in
+    looked-fits (a .ring .now) (a .s .now) (packetOf (a .s .now)) _ (c .look-long .ensures)
 
 returns-5 : tie.Need-returns-5
-returns-5 c = c .number-of .ensures ∙ read-fields _ _ _ (c .before .before .before .before .before .before .before .if1 .left) (c .before .before .before .before .before .before .if2 .left) (c .before .before .before .before .if3 .left) (c .before .before .before .if4 .left) (c .before .look-long .ensures)
+returns-5 c = c .look-number .ensures ∙ fields-number _ _ _ (c .before .before .before .before .before .before .before .if1 .left) (c .before .before .before .before .before .before .if2 .left) (c .before .before .before .before .if3 .left) (c .before .before .before .if4 .left) (c .before .look-long .ensures)
 
 look-short-requires : tie.Need-look-short-requires
 look-short-requires c κs = search needs
 
-number-of-requires-2 : tie.Need-number-of-requires-2
-number-of-requires-2 c κs = search needs
+look-number-requires-2 : tie.Need-look-number-requires-2
+look-number-requires-2 c κs = let a = c .before .before .before .before .before .before .before .before .before .args in
+    looked-fits (a .ring .now) (a .s .now) (packetOf (a .s .now)) _ (c .look-short .ensures)
 
 returns-6 : tie.Need-returns-6
-returns-6 c = c .number-of2 .ensures ∙ read-fields _ _ _ (c .before .before .before .before .before .before .before .if1 .left) (c .before .before .before .before .before .before .if2 .left) (c .before .before .before .before .if3 .left) (c .before .before .before .if4 .left) (c .before .look-short .ensures)
+returns-6 c = c .look-number2 .ensures ∙ fields-number _ _ _ (c .before .before .before .before .before .before .before .if1 .left) (c .before .before .before .before .before .before .if2 .left) (c .before .before .before .before .if3 .left) (c .before .before .before .if4 .left) (c .before .look-short .ensures)
 
 pub refusal-of-spec : {M : Type 1} → statement M
 refusal-of-spec =
@@ -56,8 +59,8 @@ refusal-of-spec =
     returns-3
     returns-4
     look-long-requires
-    number-of-requires
+    look-number-requires
     returns-5
     look-short-requires
-    number-of-requires-2
+    look-number-requires-2
     returns-6)
