@@ -79,6 +79,10 @@ messageGood n own m =
     ∷ not (eqb (m .other) own)
     ∷ [])
 
+-- a place of the store, as `messageGood` asks first
+abbrev pub placed : Message → Bool
+placed m = ltb (m .place) 16
+
 -- no message has a place of one before it
 unfoldable pub apart : List Message → List Message → Bool
 apart before [] = true

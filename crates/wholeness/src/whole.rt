@@ -12,6 +12,7 @@ ghost use Rattle.wholeness.specs.Whole.{
   seatsGood,
   companyGood,
   messageGood,
+  placed,
   apart,
   restBlank,
   listGood,
@@ -160,11 +161,13 @@ pub fn messages_good(n: u8, own: u8, l: Messages) -> bool
     true
 }
 
+// Its places are below 16, so that 16 flags will do.
 pub fn apart(l: Messages) -> bool
+    requires { ⌜ every placed (all l) ≡ true ⌝ }
     ensures { λ r. ⌜ r ≡ apart [] (all l) ⌝ }
 {
     let k = parts::list::count(l);
-    let mut used = [false; 256];
+    let mut used = [false; 16];
     let mut i: usize = 0;
     while i < k {
         let m = l.items[i];

@@ -8,7 +8,9 @@ use lib.ListN.{getD, set, drop, length, replicate, drop-of-length-le}
 use lib.Seq.{drop-cons}
 use Rattle.parts.specs.Choose.{pick, allOf, every}
 use Rattle.parts.specs.Messages.{hasPlace}
-use Rattle.wholeness.specs.Whole.{seatGood, seatsGood, apart}
+use borrow.Author.Tests.{ltb-true}
+use Rattle.parts.proofs.Laws.Tests.{held, each-first, each-rest, each-weaker}
+use Rattle.wholeness.specs.Whole.{seatGood, seatsGood, messageGood, placed, apart}
 use Rattle.parts.specs.declared.list.Message.{Message}
 use Rattle.parts.specs.declared.moves.State.{State}
 
@@ -47,6 +49,22 @@ module _ {A : Type 0} (f : A → Bool) where
   pub every-more : (l r : List A) (a : A) → l ≡ a ∷ r → f a ≡ true → every f l ≡ every f r
   unfolding every pick
   every-more l r a e h = rw (e, h)
+
+-- ---- places
+
+pub good-placed : (n own : ℕ) (ms : List Message) → every (messageGood n own) ms ≡ true → every placed ms ≡ true
+unfolding messageGood
+good-placed n own ms = each-weaker (messageGood n own) placed (λ m h. first m h) ms
+  where
+    first : (m : Message) → messageGood n own m ≡ true → placed m ≡ true
+    first m h = held _ h .0
+
+module _ (ms r : List Message) (m : Message) (e : ms ≡ m ∷ r) (h : every placed ms ≡ true) where
+  pub place-below : m .place < 16
+  place-below = ltb-true (m .place) 16 (each-first placed m r (rw (← e) h))
+
+  pub rest-placed : every placed r ≡ true
+  rest-placed = each-rest placed m r (rw (← e) h)
 
 -- ---- places apart
 

@@ -7,17 +7,18 @@ use Prim.Native.Nat.{_-_, _≤_}
 use native.Mathlib.Omega.{arith}
 use lib.ListN.{length, take, drop, length-set}
 use borrow.Author.Needs.{needs}
+use Rattle.parts.specs.Choose.{every}
 use Rattle.parts.specs.Messages.{all, Marked}
-use Rattle.wholeness.specs.Whole.{apart}
+use Rattle.wholeness.specs.Whole.{apart, placed}
 use Rattle.parts.proofs.Laws.Messages.{length-mapped, used-most, all-from, all-to, none-from}
 use Rattle.parts.proofs.Laws.Places.{marked-at, marked-none, marked-more}
-use Rattle.wholeness.proofs.Laws.Whole.{apart-none, apart-here, apart-more}
+use Rattle.wholeness.proofs.Laws.Whole.{apart-none, apart-here, apart-more, place-below, rest-placed}
 use Rattle.wholeness.proofs.whole.apart.Statement.{statement}
 use Rattle.wholeness.proofs.whole.apart.Tie as tie
 
 abbrev Inv-loop : tie.InvT-loop
 Inv-loop l k used₀ i₀ used i =
-    (i ≤ k) × (apart (take i (all l)) (drop i (all l)) ≡ apart [] (all l)) × (length used ≡ 256) × Marked used (take i (all l))
+    (i ≤ k) × (apart (take i (all l)) (drop i (all l)) ≡ apart [] (all l)) × (length used ≡ 16) × Marked used (take i (all l)) × (every placed (drop i (all l)) ≡ true)
 
 abbrev μ-loop : tie.MeasureT-loop
 μ-loop l k used₀ i₀ used i = k - i
@@ -26,7 +27,7 @@ count-requires : tie.Need-count-requires Inv-loop μ-loop
 count-requires c κs = search needs
 
 loop-holds : tie.Need-loop-holds Inv-loop μ-loop
-loop-holds c = (omega arith, refl, refl, marked-none 256)
+loop-holds c = (omega arith, refl, refl, marked-none 16, c .before .pre)
 
 mul-m : tie.Need-mul-m Inv-loop μ-loop
 mul-m c =
@@ -42,7 +43,12 @@ cast-p : tie.Need-cast-p Inv-loop μ-loop
 cast-p c = search needs
 
 array-read-if1 : tie.Need-array-read-if1 Inv-loop μ-loop
-array-read-if1 c = search needs
+array-read-if1 c =
+    let a = c .before .before .before .before .before .args in
+    let l = c .before .before .before .loop in
+    let h : length (a .t1 .items) ≡ 16 = search length-mapped in
+    let p = place-below _ _ _ (all-from (a .t1) h (l .i) (omega arith)) (l .inv .4) in
+    search needs
 
 returns : tie.Need-returns Inv-loop μ-loop
 returns c =
@@ -53,7 +59,12 @@ returns c =
     sym (sym (l .inv .1) ∙ apart-here _ _ _ _ m (sym (marked-at _ _ (l .inv .3) _) ∙ c .if1 .taken))
 
 array-write-used : tie.Need-array-write-used Inv-loop μ-loop
-array-write-used c = search needs
+array-write-used c =
+    let a = c .before .before .before .before .before .before .args in
+    let l = c .before .before .before .before .loop in
+    let h : length (a .t1 .items) ≡ 16 = search length-mapped in
+    let p = place-below _ _ _ (all-from (a .t1) h (l .i) (omega arith)) (l .inv .4) in
+    search needs
 
 add-i : tie.Need-add-i Inv-loop μ-loop
 add-i c =
@@ -69,11 +80,13 @@ loop-again c =
     let l = c .before .before .before .before .loop in
     let h : length (a .t1 .items) ≡ 16 = search length-mapped in
     let m = all-from (a .t1) h (l .i) (omega arith) in
-    let t = all-to (a .t1) h (l .i) (omega arith) in (
+    let t = all-to (a .t1) h (l .i) (omega arith) in
+    let p = place-below _ _ _ m (l .inv .4) in (
       omega arith,
       sym (apart-more _ _ _ _ _ m t (sym (marked-at _ _ (l .inv .3) _) ∙ c .if1 .left)) ∙ l .inv .1,
       length-set (l .used) _ true ∙ l .inv .2,
-      marked-more (l .used) _ _ _ t (search needs) (l .inv .3),
+      marked-more (l .used) _ _ _ t (omega (arith, p, l .inv .2)) (l .inv .3),
+      rest-placed _ _ _ m (l .inv .4),
     )
 
 returns-2 : tie.Need-returns-2 Inv-loop μ-loop

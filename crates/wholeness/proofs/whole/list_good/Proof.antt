@@ -1,7 +1,7 @@
 -- `whole::list_good` meets its contract: at each return the tests that led there say which is the first that fails.
 use mathlib.Core.Path.{sym, _∙_}
 use borrow.Author.Tests.{lt-leb, le-leb, not-true, not-false}
-use Rattle.wholeness.proofs.Laws.Whole.{test-stops, test-passes, test-known}
+use Rattle.wholeness.proofs.Laws.Whole.{test-stops, test-passes, test-known, good-placed}
 use Rattle.wholeness.specs.Whole.{listGood}
 use borrow.Author.Needs.{needs}
 use Rattle.wholeness.proofs.whole.list_good.Statement.{statement}
@@ -19,7 +19,7 @@ unfolding listGood
 returns-2 c = sym (test-passes _ _ (le-leb _ _ (c .before .before .if1 .left)) ∙ test-stops _ _ (sym (c .before .messages-good .ensures) ∙ not-true _ (c .if2 .taken)))
 
 apart-requires : tie.Need-apart-requires
-apart-requires c κs = search needs
+apart-requires c κs = good-placed _ _ _ (sym (c .before .messages-good .ensures) ∙ not-false _ (c .if2 .left))
 
 returns-3 : tie.Need-returns-3
 unfolding listGood
