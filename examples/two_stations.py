@@ -10,7 +10,7 @@ import os
 import sys
 from ctypes import CDLL, POINTER, Structure, byref, c_char_p, c_size_t, c_uint32, c_uint64, create_string_buffer, sizeof
 
-LAYOUT = 2
+LAYOUT = 3
 SIZES = ["rtep_record_size", "rtep_store_size", "rtep_place_size", "rtep_out_size", "rtep_told_size", "rtep_taken_size", "rtep_state_at"]
 DONE, IDLE, WAITING = 0, 1, 2
 BAD_PACKET = 12

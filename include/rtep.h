@@ -23,13 +23,14 @@ extern "C" {
 
 /* The layout that this header describes. It is another number where a record, a store, a struct below or what a call
  * takes or gives back is another; so a driver asks first of all whether rtep_layout() gives it. */
-#define RTEP_LAYOUT 2
+#define RTEP_LAYOUT 3
 
 /* Sizes in octets. */
-#define RTEP_RECORD 671     /* a station record, exactly */
+#define RTEP_RECORD 735     /* a station record, exactly */
 #define RTEP_STORE 47744    /* a payload store, exactly: 16 send places, then 16 receive places */
 #define RTEP_PLACE 1492     /* a place of the store; a payload has at most as many */
 #define RTEP_OUT 1500       /* the fewest of an out buffer */
+#define RTEP_FILE 450       /* the longest ring file: form 2, with 64 members */
 #define RTEP_PACKET_LEAST 46
 #define RTEP_PACKET_MOST 1500
 
@@ -110,9 +111,9 @@ enum rtep_state {
 /* The numbers given back: done, or refused and why. rtep_reason has a text for each. */
 enum rtep_number {
     RTEP_DONE = 0,
-    RTEP_REFUSED_FILE_LENGTH = 1,       /* ring file: under 2 octets, or not 2 + 6 N */
-    RTEP_REFUSED_FILE_FORM = 2,         /* ring file: form number not 1 */
-    RTEP_REFUSED_FILE_ZERO_BITS = 3,    /* ring file: the 2 zero bits are not zero */
+    RTEP_REFUSED_FILE_LENGTH = 1,       /* ring file: under 2 octets, or not 2 + 6 N in form 1, 2 + 7 N in form 2 */
+    RTEP_REFUSED_FILE_FORM = 2,         /* ring file: form number neither 1 nor 2 */
+    RTEP_REFUSED_FILE_ZERO_BITS = 3,    /* ring file of form 1: the 2 zero bits are not zero */
     RTEP_REFUSED_FILE_ONE_MEMBER = 4,   /* ring file: N - 1 = 0 */
     RTEP_REFUSED_FILE_NO_RETRY = 5,     /* ring file: R = 0 */
     RTEP_REFUSED_FILE_BAD_ADDRESS = 6,  /* ring file: an address that is zero, or with the lowest bit of its first octet 1 */
@@ -136,6 +137,9 @@ enum rtep_number {
     RTEP_REFUSED_STARTED = 23,          /* start when not Offline */
     RTEP_REFUSED_CAPTURE_LENGTH = 24,   /* no call of this library: a capture's length, by rtep_replay */
     RTEP_REFUSED_CAPTURE_RECORD = 25,   /* the same: a capture's record */
+    RTEP_REFUSED_FORM_1 = 26,           /* to form 1: another version than 1, or a closed channel */
+    RTEP_REFUSED_FILE_VERSION = 27,     /* ring file of form 2: rule version 0 or 3 */
+    RTEP_REFUSED_CLOSED = 28,           /* the destination has that channel closed */
     RTEP_REFUSED_NOT_WHOLE = 35,        /* a record that is not whole; make: a record buffer not of RTEP_RECORD octets */
     RTEP_REFUSED_WIRE_FULL = 36         /* rtep_replay: a timer record with 64 frames on the wire */
 };
@@ -152,8 +156,8 @@ static inline const char *rtep_reason(uint32_t given)
 {
     switch (RTEP_NUMBER(given)) {
     case RTEP_DONE: return "done";
-    case RTEP_REFUSED_FILE_LENGTH: return "the ring file's length is not 2 + 6 N octets";
-    case RTEP_REFUSED_FILE_FORM: return "the ring file's form number is not 1";
+    case RTEP_REFUSED_FILE_LENGTH: return "the ring file's length is not 2 + 6 N octets in form 1, 2 + 7 N in form 2";
+    case RTEP_REFUSED_FILE_FORM: return "the ring file's form number is neither 1 nor 2";
     case RTEP_REFUSED_FILE_ZERO_BITS: return "the ring file's two zero bits are not zero";
     case RTEP_REFUSED_FILE_ONE_MEMBER: return "the ring file has one member only";
     case RTEP_REFUSED_FILE_NO_RETRY: return "the ring file's retry limit is 0";
@@ -177,6 +181,9 @@ static inline const char *rtep_reason(uint32_t given)
     case RTEP_REFUSED_STARTED: return "this station was started before";
     case RTEP_REFUSED_CAPTURE_LENGTH: return "the capture's length is not a multiple of 5 octets, or over 60000";
     case RTEP_REFUSED_CAPTURE_RECORD: return "a record of the capture is none, or names a station outside the ring";
+    case RTEP_REFUSED_FORM_1: return "the ring file has another version than 1 or a closed channel, which form 1 cannot say";
+    case RTEP_REFUSED_FILE_VERSION: return "the ring file's rule version is neither 1 nor 2";
+    case RTEP_REFUSED_CLOSED: return "the destination does not listen on the channel";
     case RTEP_REFUSED_NOT_WHOLE: return "the record is not whole, or not of its size";
     case RTEP_REFUSED_WIRE_FULL: return "a timer would put a 65th frame on the wire";
     default: return "no number of RT-EP";
@@ -184,9 +191,9 @@ static inline const char *rtep_reason(uint32_t given)
 }
 
 /* What a driver may read of a record, and never write. Both counts stop at 4,294,967,295. */
-#define RTEP_AT_STATE 387
-#define RTEP_AT_LOST 405
-#define RTEP_AT_GIVEN_UP 409
+#define RTEP_AT_STATE 451
+#define RTEP_AT_LOST 469
+#define RTEP_AT_GIVEN_UP 473
 
 static inline enum rtep_state rtep_state(const uint8_t *record)
 {
@@ -242,6 +249,7 @@ size_t rtep_told_size(void);
 size_t rtep_taken_size(void);
 size_t rtep_packet_size(void);
 size_t rtep_ring_size(void);
+size_t rtep_file_size(void);
 
 /* And where in a record state, lost and given up stand. */
 size_t rtep_state_at(void);
@@ -250,7 +258,7 @@ size_t rtep_given_up_at(void);
 
 /* Makes a station of a ring file and its own address: record is then a station that is Offline, with all N
  * members live, empty lists, and counts of 0. What was in the record before does not matter.
- * Refuses, in this order, with 35 (record_len), 1 to 7 (the ring file's own order), 8. */
+ * Refuses, in this order, with 35 (record_len), 1 to 7 and 27 (the ring file's own order), 8. */
 uint32_t rtep_make(uint8_t *record, size_t record_len, const uint8_t *file, size_t file_len, uint64_t own);
 
 /* Starts the station: that at position 0 starts a round with frame number 0 and waits, others become Idle.
@@ -274,7 +282,7 @@ uint32_t rtep_timer(uint8_t *record, size_t record_len, const uint8_t *store, si
                     uint8_t *out, size_t out_len, struct rtep_told *told);
 
 /* Queues a message: it joins the send list, and its payload is copied into the store.
- * Refuses, in this order, with 9 (store_len), 35, 22, 14, 15, 16, 17, 18, 19. */
+ * Refuses, in this order, with 9 (store_len), 35, 22, 14, 15, 16, 17, 28, 18, 19. */
 uint32_t rtep_queue(uint8_t *record, size_t record_len, uint8_t *store, size_t store_len,
                     uint64_t to, size_t priority, size_t channel, const uint8_t *payload, size_t payload_len);
 
@@ -286,8 +294,15 @@ uint32_t rtep_take(uint8_t *record, size_t record_len, const uint8_t *store, siz
 
 /* The codec by itself; a driver of a station does not need it. docs/INTERFACE.md gives its numbers. */
 
-/* Reads a ring file. Refuses with 1 to 7. */
+/* Reads a ring file of either form. Refuses, in this order, with 1, 2, 3 (form 1) or 27 (form 2), 4, 5, 1, and 6 and 7
+ * for each address. */
 uint32_t rtep_ring(const uint8_t *file, size_t file_len, struct rtep_ring *ring);
+
+/* The same ring in form 1, or in form 2, at the start of out, with its length in octets; octets of out behind it stay. A
+ * file that has the form already is handed back as it is. Form 1 becomes form 2 with rule version 1 and every channel
+ * open. Refuses as rtep_ring does, and to form 1 then with 26. */
+uint32_t rtep_to_form_1(const uint8_t *file, size_t file_len, uint8_t out[RTEP_FILE], uint64_t *octets);
+uint32_t rtep_to_form_2(const uint8_t *file, size_t file_len, uint8_t out[RTEP_FILE], uint64_t *octets);
 
 /* Reads a packet against the addresses of a ring's members. The information is told->length octets from packet[8] on.
  * Refuses, in this order, with 10, 11, 12 and its offset: RTEP_NUMBER, RTEP_OFFSET. */

@@ -40,7 +40,6 @@
 #define HEADER 14
 #define LONGEST_TIME 600000 /* ms */
 #define LINE 2048           /* a line of standard input at most, with its line feed */
-#define FILE_MOST (2 + 6 * RTEP_MEMBERS)
 
 static uint8_t record[RTEP_RECORD], store[RTEP_STORE], out[HEADER + RTEP_OUT];
 static struct rtep_told told;
@@ -276,7 +275,7 @@ static void open_card(const char *name)
 
 static void make(const char *path)
 {
-    uint8_t file[FILE_MOST + 1];
+    uint8_t file[RTEP_FILE + 1]; /* one more, so that a longer file is seen to be one */
     int opened = open(path, O_RDONLY | O_CLOEXEC);
     if (opened < 0) fail(2, "ring file %s: %s", path, strerror(errno));
     size_t len = 0;

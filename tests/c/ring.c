@@ -664,14 +664,41 @@ static void layout(void)
     CHECK(rtep_taken_size() == sizeof(struct rtep_taken), "taken");
     CHECK(rtep_packet_size() == sizeof(struct rtep_packet), "packet");
     CHECK(rtep_ring_size() == sizeof(struct rtep_ring), "ring");
+    CHECK(rtep_file_size() == RTEP_FILE, "ring file");
     CHECK(rtep_state_at() == RTEP_AT_STATE, "state");
     CHECK(rtep_lost_at() == RTEP_AT_LOST, "lost");
     CHECK(rtep_given_up_at() == RTEP_AT_GIVEN_UP, "given up");
 }
 
+/* A ring file in form 2 and back; a station made of it refuses a message to a closed channel. */
+static void forms(void)
+{
+    static const uint8_t one[] = {0x10, 0x44, 2, 0, 0, 0, 0, 1, 2, 0, 0, 0, 0, 2};
+    static const uint8_t two[] = {0x20, 0x45, 2, 0, 0, 0, 0, 1, 0xFF, 2, 0, 0, 0, 0, 2, 0xFF};
+    uint8_t out[RTEP_FILE], back[RTEP_FILE], closed[sizeof two];
+    uint64_t octets;
+    CHECK(rtep_to_form_2(one, sizeof one, out, &octets) == 0 && octets == sizeof two && memcmp(out, two, sizeof two) == 0, "to form 2");
+    CHECK(rtep_to_form_1(out, octets, back, &octets) == 0 && octets == sizeof one && memcmp(back, one, sizeof one) == 0, "and back");
+    memcpy(closed, two, sizeof two);
+    closed[15] = 0xDF; /* the second member does not listen on channel 2 */
+    CHECK(rtep_to_form_1(closed, sizeof closed, back, &octets) == RTEP_REFUSED_FORM_1, "26");
+
+    uint8_t *record = exactly(RTEP_RECORD), *store = exactly(RTEP_STORE), *packet = exactly(RTEP_OUT);
+    struct rtep_told told;
+    CHECK(rtep_make(record, RTEP_RECORD, closed, sizeof closed, 0x020000000001) == 0, "made of form 2");
+    CHECK(rtep_start(record, RTEP_RECORD, packet, RTEP_OUT, &told) == 0, "started");
+    CHECK(rtep_queue(record, RTEP_RECORD, store, RTEP_STORE, 0x020000000002, 1, 2, closed, 1) == RTEP_REFUSED_CLOSED, "28");
+    CHECK(rtep_queue(record, RTEP_RECORD, store, RTEP_STORE, 0x020000000002, 1, 8, closed, 1) == RTEP_REFUSED_CHANNEL, "17 before 28");
+    CHECK(rtep_queue(record, RTEP_RECORD, store, RTEP_STORE, 0x020000000002, 1, 3, closed, 1) == RTEP_DONE, "an open one");
+    free(record);
+    free(store);
+    free(packet);
+}
+
 int main(void)
 {
     layout();
+    forms();
     make_all();
     start_all();
     priority_order();

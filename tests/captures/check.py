@@ -70,9 +70,9 @@ def scripts(folder):
         if day is None:
             continue
         members, text = day
-        addresses = [(2 * i + 2).to_bytes(6, "big") for i in range(members)]
+        addresses = [((2 * i + 2).to_bytes(6, "big"), ring.ALL_OPEN) for i in range(members)]
         name = folder / f"{path.parent.name}_{path.stem}"
-        name.with_suffix(".ring").write_bytes(ring.written(choose.randint(1, 15), addresses))
+        name.with_suffix(".ring").write_bytes(ring.written(1, choose.randint(1, 15), 0, addresses))
         run("capture", "write", name.with_suffix(".capture"), name.with_suffix(".ring"), given=text.encode())
         name.with_suffix(".expected").write_bytes(path.with_suffix(".expected").read_bytes())
         written += 1
@@ -99,7 +99,7 @@ def beside_model(capture, ring, name):
     if ring.refusal(file) != 0:
         assert expected == f"refused {ring.refusal(file)}\n", name
         return ring.refusal(file)
-    number, at = refusal(capture, octets, len(ring.addresses(file)))
+    number, at = refusal(capture, octets, len(list(ring.members(file))))
     stop = re.search(r"^stopped (\d+) at (\d+)$", expected, re.M)
     if number == 24:
         assert expected == "refused 24\n", name

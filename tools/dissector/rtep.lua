@@ -7,8 +7,8 @@
 -- A packet that a station would refuse is marked malformed, each reason at its field, and rtep.refused is the rule
 -- book's number: 10, 11 or 12. Beside 12 rtep.offset is where the packet is bad: the first octet of its first bad field,
 -- else its first pad octet that is not zero, else the length's, 6 for information and 0 for a token. Whether an address belongs to the ring is only looked at where the preference rtep.ring
--- names its members: -o "rtep.ring:02:00:00:00:00:01 02:00:00:00:00:02". An address that no ring can have is always
--- marked.
+-- names its members: -o "rtep.ring:02:00:00:00:00:01 02:00:00:00:00:02", or with open channels behind them, as tools/ring
+-- takes them for form 2: a station that hears does not ask for those. An address that no ring can have is always marked.
 --
 -- rtep.acknowledges are the frames of the capture that a frame acknowledges: of each station that waits, the one it sent
 -- last. The capture shows what was sent and not who heard it: a station that missed the frame waits on, for the next one.
@@ -23,7 +23,7 @@ local kinds = { [TOKEN] = "Token", [TRANSMIT] = "Transmit token", [INFORMATION] 
 local rtep = Proto("rtep", "RT-EP")
 
 rtep.prefs.ring = Pref.string("Members of the ring", "",
-    "Their addresses, parted by spaces: 02:00:00:00:00:01 and so on. Empty: not looked at.")
+    "Their addresses, parted by spaces: 02:00:00:00:00:01 and so on, or 02:00:00:00:00:01=CHANNELS. Empty: not looked at.")
 
 local field = {
     identifier = ProtoField.uint8("rtep.identifier", "Identifier", base.DEC, kinds),
@@ -68,7 +68,7 @@ local function ring()
         members = nil
         for word in read_from:gmatch("%S+") do
             members = members or {}
-            local octets = word:gsub("[:-]", ""):lower()
+            local octets = word:gsub("=.*", ""):gsub("[:-]", ""):lower()
             members[octets] = true
             if octets:find("^" .. ("%x"):rep(12) .. "$") then
                 members[shown(octets)] = true

@@ -1,6 +1,7 @@
 -- A capture: records one after the other, each bit-packed, the most significant bit first.
 use Prim.Native.Nat.{ℕ, _+_, _*_, _%_, _^_, _<_}
-use mathlib.Core.Bool.{Bool, not, _&&_, _||_}
+use mathlib.Core.Path.{_≡_}
+use mathlib.Core.Bool.{Bool, true, not, _&&_, _||_}
 use mathlib.Core.List.{List, [], _∷_}
 use lib.Dec.{ltb, leb, eqb}
 use lib.ListN.{length, take, drop}
@@ -73,8 +74,9 @@ recordNumber n f = firstOf 0 (recordTests n f)
 
 -- ---- what a record says
 
+-- a record says nothing of open channels
 abbrev pub requestOf : Fields → Request
-requestOf f = record { to = f .destination; priority = f .priority; channel = f .channel; length = f .length }
+requestOf f = record { to = f .destination; priority = f .priority; channel = f .channel; length = f .length; listens = true }
 
 -- "0 frame delivered, 1 frame lost for the addressee only, 2 frame lost for all, 3 timer of a station, 4 queue"
 unfoldable pub eventOf : Fields → Event
@@ -138,3 +140,11 @@ EventFits n LostForAddressee = Unit {0}
 EventFits n LostForAll = Unit {0}
 EventFits n (Timer station) = station < n
 EventFits n (Queue station q) = QueueFits n station q
+
+-- "which channels a member listens on" is the ring file's to say, and no record's: as it is read, an event is one on an open channel
+abbrev pub NotSaid : Event → Type 0
+NotSaid Delivered = Unit {0}
+NotSaid LostForAddressee = Unit {0}
+NotSaid LostForAll = Unit {0}
+NotSaid (Timer station) = Unit {0}
+NotSaid (Queue station q) = q .listens ≡ true

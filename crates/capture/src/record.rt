@@ -150,6 +150,7 @@ fn event_of(f: Fields) -> Event
         priority: f.priority,
         channel: f.channel,
         length: f.length,
+        listens: true,
     };
     Event::Queue { station, request }
 }

@@ -44,6 +44,7 @@ fn obey(s: Station, line: &[u8]) -> Station {
             priority: n.values[1],
             channel: n.values[2],
             length: n.values[3],
+            listens: true,
         };
         return tell(s.queue(q));
     }

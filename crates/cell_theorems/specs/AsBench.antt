@@ -3,7 +3,7 @@ use Prim.Native.Nat.{ℕ, _<_}
 use mathlib.Core.Path.{_≡_}
 use mathlib.Core.List.{List, [], _∷_, _++_}
 use lib.ListN.{length, getD}
-use Rattle.codec.specs.Ring.{position}
+use Rattle.codec.specs.Ring.{position, readRing}
 use Rattle.packet_codec.specs.Packet.{wireOctets, readPacket}
 use Rattle.packet_codec.specs.declared.packet.Packet.{Packet}
 use Rattle.packet_codec.specs.declared.packet.Packet.the-variants.{Token, Transmit, Information}
@@ -28,7 +28,7 @@ use Rattle.cell_theorems.specs.Cell.{Transit, Cell, members, retries, ad
 -- ---- a run's events on the bench: a driver's `to` is an address, the bench's a position
 
 abbrev pub requestIn : List ℕ → Asking → Request
-requestIn file a = requestOf (ringOf file) (a .to) (a .priority) (a .channel) (length (a .payload))
+requestIn file a = requestOf (readRing file .ring) (a .to) (a .priority) (a .channel) (length (a .payload))
 
 abbrev pub eventOf : List ℕ → Act → Event
 eventOf file handed = stepped

@@ -8,7 +8,7 @@ use Rattle.codec.specs.Ring.{readRing}
 use Rattle.packet_codec.specs.Packet.{longestPacket}
 use Rattle.records.specs.Layout.{recordLength, storeLength}
 use Rattle.driver_buffers.specs.Packets.{addressOf}
-use Rattle.driver_calls.specs.Calls.{ringOf, ringIn, requestOf, Making, Starting, Hearing, Queueing}
+use Rattle.driver_calls.specs.Calls.{ringOf, ringIn, ringKept, requestOf, Making, Starting, Hearing, Queueing}
 use Rattle.rtep.specs.Sizes.{toldNumbers}
 
 -- a node: its record and its store
@@ -106,7 +106,7 @@ pub record QueueCall (file : List ℕ) (a : Asking) (c c′ : Cell) : Type 0 whe
   pub number : ℕ
   pub queues :
       Queueing (c .node (a .at) .rec) (c .node (a .at) .store)
-      (requestOf (ringIn (c .node (a .at) .rec)) (a .to) (a .priority) (a .channel) (length (a .payload))) (a .payload) number
+      (requestOf (ringKept (c .node (a .at) .rec)) (a .to) (a .priority) (a .channel) (length (a .payload))) (a .payload) number
       (c′ .node (a .at) .rec) (c′ .node (a .at) .store)
   pub others-stay : (p : ℕ) → p < members file → (p ≡ a .at → ⊥) → c′ .node p ≡ c .node p
   pub wire-stays : c′ .wire ≡ c .wire

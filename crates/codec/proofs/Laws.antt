@@ -5,3 +5,8 @@ pub mod Zeros
 pub mod Bits
 pub mod Position
 pub mod Ring
+pub mod Channels
+pub mod Members
+pub mod Forms
+pub mod Written
+pub mod Front

@@ -1,21 +1,37 @@
-// The head of a ring file: the four fields before the addresses.
+// The head of a ring file: the four fields before the members.
 ghost use mathlib.Core.Path.{_≡_};
 ghost use Prim.Native.Nat.{_≤_, _<_};
 ghost use lib.ListN.{length};
-ghost use Rattle.codec.specs.Ring.{headBits, countOf, fileOctets};
+ghost use Rattle.codec.specs.Ring.{headBits, countOf, stride, fileOctets};
 use crate::reader::Reader;
 
-// The octets of the head, and of each member behind it.
+// The octets of the head.
 pub const HEAD: usize = 2;
 
-pub const STRIDE: usize = 6;
+// The octets of the longest file: form 2, with 64 members.
+pub const LONGEST: usize = HEAD + 7 * 64;
 
-// The form number, N − 1, the retry limit and the two zero bits.
+// The octets of each member behind the head: its address, and in form 2 its open channels.
+pub fn stride(form: u64) -> usize
+    ensures { λ r. ⌜ r ≡ stride form ⌝ }
+{
+    if form == 2 { 7 } else { 6 }
+}
+
+// The octets of a file of a form, with `n` members.
+pub fn file_octets(form: u64, n: usize) -> usize
+    requires { ⌜ n ≤ 64 ⌝ }
+    ensures { λ r. ⌜ r ≡ fileOctets form n ⌝ }
+{
+    HEAD + stride(form) * n
+}
+
+// The form number, N − 1, the retry limit and the last two bits: zero in form 1, the rule version in form 2.
 pub struct HeadBits {
     pub form: u64,
     pub others: u64,
     pub limit: u64,
-    pub zeros: u64,
+    pub last: u64,
 }
 
 impl HeadBits {
@@ -27,12 +43,12 @@ impl HeadBits {
         self.others as usize + 1
     }
 
-    // How long the file is, by its own N.
+    // How long the file is, by its own form and N.
     pub fn octets(self) -> usize
         requires { ⌜ self .others < 64 ⌝ }
-        ensures { λ r. ⌜ r ≡ fileOctets (countOf self) ⌝ }
+        ensures { λ r. ⌜ r ≡ fileOctets (self .form) (countOf self) ⌝ }
     {
-        HEAD + STRIDE * self.count()
+        file_octets(self.form, self.count())
     }
 }
 
@@ -45,11 +61,11 @@ pub fn head_of(file: &[u8]) -> HeadBits
     let form = r.take(4);
     let others = r.take(6);
     let limit = r.take(4);
-    let zeros = r.take(2);
+    let last = r.take(2);
     HeadBits {
         form,
         others,
         limit,
-        zeros,
+        last,
     }
 }

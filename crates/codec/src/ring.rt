@@ -4,10 +4,9 @@ ghost use mathlib.Core.Bool.{true};
 ghost use Prim.Native.Nat.{_+_, _*_, _≤_, _<_};
 ghost use lib.ListN.{length, take, drop, getD};
 ghost use Rattle.codec.specs.Octets.{laid};
-ghost use Rattle.codec.specs.Ring.{badAddress, position, isMember, fieldRefusal, fileOctets, addressesOf, addressRefusal, addressesRefusal, count, ringRefusal};
+ghost use Rattle.codec.specs.Ring.{badAddress, position, isMember, isForm, lastBad, lastNumber, fieldRefusal, form, stride, memberAt, addressesOf, addressRefusal, addressesRefusal, count, ringRefusal};
 use crate::head::HEAD;
 use crate::head::HeadBits;
-use crate::head::STRIDE;
 use crate::head::head_of;
 use crate::reader::address_from;
 
@@ -108,16 +107,45 @@ pub fn addresses_refusal(members: &[u64]) -> u32
     number
 }
 
+pub fn is_form(form: u64) -> bool
+    ensures { λ r. ⌜ r ≡ isForm form ⌝ }
+{
+    if form == 1 {
+        return true;
+    }
+    form == 2
+}
+
+// Whether the last two bits of a head are bad: not zero in form 1, version 0 or 3 in form 2.
+pub fn last_bad(form: u64, last: u64) -> bool
+    ensures { λ r. ⌜ r ≡ lastBad form last ⌝ }
+{
+    if form != 2 {
+        return last != 0;
+    }
+    if last == 0 {
+        return true;
+    }
+    last == 3
+}
+
+// The number of that refusal.
+pub fn last_number(form: u64) -> u32
+    ensures { λ r. ⌜ r ≡ lastNumber form ⌝ }
+{
+    if form == 2 { 27 } else { 3 }
+}
+
 // The refusals of a head in a file of `size` octets, or 0.
 pub fn field_refusal(head: HeadBits, size: usize) -> u32
     requires { ⌜ head .others < 64 ⌝ }
     ensures { λ r. ⌜ r ≡ fieldRefusal head size ⌝ }
 {
-    if head.form != 1 {
+    if !is_form(head.form) {
         return 2;
     }
-    if head.zeros != 0 {
-        return 3;
+    if last_bad(head.form, head.last) {
+        return last_number(head.form);
     }
     if head.others == 0 {
         return 4;
@@ -131,16 +159,30 @@ pub fn field_refusal(head: HeadBits, size: usize) -> u32
     0
 }
 
-// Lays the addresses that a file holds over the start of an array.
-pub fn addresses_into(file: &[u8], n: usize, addresses: &mut [u64])
-    requires { ⌜ (n ≤ 64) × (n ≤ length (now addresses)) × (fileOctets n ≤ length (now file)) ⌝ }
+// Lays the addresses that a file holds, one at each stride, over the start of an array.
+fn addresses_by(file: &[u8], step: usize, n: usize, addresses: &mut [u64])
+    requires { ⌜ (n ≤ 64) × (n ≤ length (now addresses)) × (step ≡ stride (form (now file))) × (memberAt (now file) n ≤ length (now file)) ⌝ }
     ensures { λ _. ⌜ now (addresses .exit) ≡ laid (now (addresses .entry)) 0 (addressesOf (now (file .entry)) n) ⌝ }
 {
+    let mut at = HEAD;
     let mut i = 0;
     while i < n {
-        addresses[i] = address_from(file, (HEAD + STRIDE * i) * 8);
+        addresses[i] = address_from(file, at * 8);
+        at += step;
         i += 1;
     }
+}
+
+// The same by the form's number. Each stride is handed over as a number, of which the compiler makes a loop of its own.
+pub fn addresses_into(file: &[u8], number: u64, n: usize, addresses: &mut [u64])
+    requires { ⌜ (n ≤ 64) × (n ≤ length (now addresses)) × (number ≡ form (now file)) × (memberAt (now file) n ≤ length (now file)) ⌝ }
+    ensures { λ _. ⌜ now (addresses .exit) ≡ laid (now (addresses .entry)) 0 (addressesOf (now (file .entry)) n) ⌝ }
+{
+    if number == 2 {
+        addresses_by(file, 7, n, addresses);
+        return;
+    }
+    addresses_by(file, 6, n, addresses);
 }
 
 // Reads a ring file's addresses over the start of an array: every check in the page's order.
@@ -157,6 +199,6 @@ pub fn read_into(file: &[u8], addresses: &mut [u64]) -> u32
         return early;
     }
     let n = head.count();
-    addresses_into(file, n, addresses);
+    addresses_into(file, head.form, n, addresses);
     addresses_refusal(members(addresses, n))
 }

@@ -1,4 +1,5 @@
 pub mod Day
+pub mod Listening
 pub mod Records
 pub mod Printed
 pub mod Wire

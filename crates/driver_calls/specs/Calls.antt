@@ -8,7 +8,7 @@ use lib.Dec.{ltb, leb, eqb}
 use lib.ListN.{length, take}
 use Rattle.codec.specs.Order.{firstOf}
 use Rattle.codec.specs.Octets.{laid}
-use Rattle.codec.specs.Ring.{Ring, position, isMember, readRing}
+use Rattle.codec.specs.Ring.{Ring, position, isMember, readRing, listens}
 use Rattle.packet_codec.specs.Packet.{longestPacket, informationIn, readPacket, readNumber, kept}
 use Rattle.packet_codec.specs.declared.reading.Read.{Read}
 use Rattle.packet_codec.specs.declared.reading.Read.the-variants.{Refused, Good}
@@ -42,8 +42,11 @@ use Rattle.driver_calls.specs.declared.hearing.Call.the-variants.{Start,
 abbrev pub membersOf : Ring → List ℕ
 membersOf r = take (r .n) (r .addresses)
 
+abbrev pub ringKept : List ℕ → Ring
+ringKept rec = readRecord rec .ring
+
 abbrev pub ringIn : List ℕ → List ℕ
-ringIn rec = membersOf (readRecord rec .ring)
+ringIn rec = membersOf (ringKept rec)
 
 abbrev pub stationIn : List ℕ → Station
 stationIn rec = readRecord rec .station
@@ -175,10 +178,13 @@ pub record Hearing (rec store : List ℕ) (from to : ℕ) (packet out told : Lis
 
 -- ---- queue
 
--- what a driver's numbers ask for: its `to` is an address
-abbrev pub requestOf : List ℕ → ℕ → ℕ → ℕ → ℕ → Request
-requestOf ring to priority channel length =
-    record { to = position ring to; priority = priority; channel = channel; length = length }
+-- what a driver's numbers ask for: its `to` is an address of the ring's members. Whether that member listens on the channel, the ring says
+abbrev pub requestFor : List ℕ → Ring → ℕ → ℕ → ℕ → ℕ → Request
+requestFor members r to priority channel length =
+    record { to = position members to; priority = priority; channel = channel; length = length; listens = listens r (position members to) channel }
+
+abbrev pub requestOf : Ring → ℕ → ℕ → ℕ → ℕ → Request
+requestOf r to priority channel length = requestFor (membersOf r) r to priority channel length
 
 abbrev pub queueAnswer : List ℕ → Request → Answer
 queueAnswer rec q = queueRule (stationIn rec) q

@@ -19,8 +19,8 @@ heardRefusal n own alive from to =
     ∷ (eqb from own, 13)
     ∷ [])
 
--- priority 0 or above 255; destination not a member, or this station; struck out; channel above 7; payload above 1,492;
--- 16 messages in the send list
+-- priority 0 or above 255; destination not a member, or this station; struck out; channel above 7; the destination has that channel
+-- closed; payload above 1,492; 16 messages in the send list
 unfoldable pub queueRefusal : ℕ → ℕ → Bool → ℕ → Request → ℕ
 queueRefusal n own live len q =
     firstOf 0
@@ -30,6 +30,7 @@ queueRefusal n own live len q =
     ∷ (eqb (q .to) own, 15)
     ∷ (not live, 16)
     ∷ (ltb 7 (q .channel), 17)
+    ∷ (not (q .listens), 28)
     ∷ (ltb mostInformation (q .length), 18)
     ∷ (leb 16 len, 19)
     ∷ [])

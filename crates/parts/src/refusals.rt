@@ -49,6 +49,9 @@ pub fn queue_refusal(n: u8, own: u8, live: bool, len: usize, q: Request) -> u32
     if 7 < q.channel {
         return 17;
     }
+    if !q.listens {
+        return 28;
+    }
     if INFORMATION < q.length {
         return 18;
     }

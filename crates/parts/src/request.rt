@@ -3,12 +3,14 @@ ghost use mathlib.Core.Path.{_≡_};
 ghost use Rattle.parts.specs.Messages.{Fits, messageFor};
 use crate::list::Message;
 
-// A message of `length` octets to the position `to`.
+// A message of `length` octets to the position `to`; `listens` is what the ring file says of the destination: whether it has the channel
+// open.
 pub struct Request {
     pub to: usize,
     pub priority: usize,
     pub channel: usize,
     pub length: usize,
+    pub listens: bool,
 }
 
 // The message, with its payload at `place`.

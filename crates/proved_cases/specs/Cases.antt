@@ -22,20 +22,29 @@ pub record Case : Type 0 where
   pub page : List ℕ
 
 -- n good addresses
-members : ℕ → List ℕ
+unfoldable pub members : ℕ → List ℕ
 members zero = []
 members (suc n) = members n ++ (n + 1) * 2 ∷ []
 
-ring : ℕ → ℕ → Ring
-ring n limit = record { n = n; limit = limit; addresses = members n ++ replicate (64 - n) 0 }
+-- with version 1 and every channel open
+abbrev pub ring : ℕ → ℕ → ℕ → Ring
+ring form n limit =
+    record {
+      form = form;
+      n = n;
+      limit = limit;
+      version = 1;
+      addresses = members n ++ replicate (64 - n) 0;
+      channels = replicate n 255 ++ replicate (64 - n) 0;
+    }
 
 -- a ring file's first two octets and its length; then the number that reading it gives, N and R
-file : ℕ → ℕ → List ℕ
-file n limit = take 2 (ringFile (ring n limit)) ++ length (ringFile (ring n limit)) ∷ []
+fileIn : ℕ → ℕ → ℕ → List ℕ
+fileIn form n limit = take 2 (ringFile (ring form n limit)) ++ length (ringFile (ring form n limit)) ∷ []
 
-back : ℕ → ℕ → List ℕ
-back n limit =
-    let r = readRing (ringFile (ring n limit)) in
+abbrev pub backFrom : ℕ → ℕ → ℕ → List ℕ
+backFrom form n limit =
+    let r = readRing (ringFile (ring form n limit)) in
     r .number ∷ r .ring .n ∷ r .ring .limit ∷ []
 
 -- octets on the wire of n octets of information
@@ -62,13 +71,17 @@ waits n =
     let rows = before (spotFor b 0) (queue b 0 itsRequest .bench) (stepping (2 * n + 3)) in
     shorts rows ∷ octetsOnWire rows ∷ []
 
-unfoldable pub cases : List Case
-unfolding members ring file back wire acknowledgedBy lines bench waits
-cases =
-    record { given = file 3 2; page = 0x10 ∷ 0x88 ∷ 20 ∷ [] }
-    ∷ record { given = back 3 2; page = 0 ∷ 3 ∷ 2 ∷ [] }
-    ∷ record { given = file 64 15; page = 0x1F ∷ 0xFC ∷ 386 ∷ [] }
-    ∷ record { given = back 64 15; page = 0 ∷ 64 ∷ 15 ∷ [] }
+-- the longest file of a form, read
+abbrev pub longestRead : ℕ → Case
+longestRead form = record { given = backFrom form 64 15; page = 0 ∷ 64 ∷ 15 ∷ [] }
+
+unfoldable pub otherCases : List Case
+unfolding members fileIn wire acknowledgedBy lines bench waits
+otherCases =
+    record { given = fileIn 1 3 2; page = 0x10 ∷ 0x88 ∷ 20 ∷ [] }
+    ∷ record { given = backFrom 1 3 2; page = 0 ∷ 3 ∷ 2 ∷ [] }
+    ∷ record { given = fileIn 1 64 15; page = 0x1F ∷ 0xFC ∷ 386 ∷ [] }
+    ∷ record { given = fileIn 2 64 15; page = 0x2F ∷ 0xFD ∷ 450 ∷ [] }
     ∷ record { given = wire 0 ∷ wire 38 ∷ wire 39 ∷ wire 1492 ∷ []; page = 72 ∷ 72 ∷ 73 ∷ 1526 ∷ [] }
     ∷ record { given = acknowledgedBy 65535 0 1 ∷ acknowledgedBy 65535 0 2 ∷ acknowledgedBy 65535 1 1 ∷ []; page = 1 ∷ 1 ∷ 1 ∷ [] }
     -- 0, 1, 32,767 and 32,768 ahead: of 11, from the addressee, and of 65,535, from another
@@ -112,3 +125,6 @@ cases =
     -- the bound for N = 3
     ∷ record { given = waits 3; page = 7 ∷ 2030 ∷ [] }
     ∷ []
+
+unfoldable pub cases : List Case
+cases = longestRead 1 ∷ longestRead 2 ∷ otherCases

@@ -75,7 +75,7 @@ listLength = itemsIn + itemsLength
 
 -- the ring file's octets, and zeros behind them up to the longest ring file's length
 abbrev pub ringRoom : ℕ
-ringRoom = fileOctets 64
+ringRoom = fileOctets 2 64
 
 abbrev pub ownAt : ℕ
 ownAt = ringRoom

@@ -8,7 +8,7 @@ use lib.Dec.{eqb}
 use lib.ListN.{length, take}
 use Rattle.codec.specs.Order.{firstOf}
 use Rattle.codec.specs.Octets.{octets, numberAt, zeros, firstNonzero}
-use Rattle.codec.specs.Ring.{Ring, RingRead, count, fileOctets, readRing, noRing}
+use Rattle.codec.specs.Ring.{Ring, RingRead, count, memberAt, readRing, noRing}
 use Rattle.parts.specs.Choose.{allOf}
 use Rattle.station.specs.Stations.{made}
 use Rattle.wholeness.specs.Whole.{restBlank, whole}
@@ -41,9 +41,9 @@ recordOctets file s = ringOctets file ++ stationOctets s
 
 -- ---- reading
 
--- the ring file says how long it is
+-- the ring file says how long it is, by its form and its N
 abbrev pub fileLength : List ℕ → ℕ
-fileLength s = fileOctets (count s)
+fileLength s = memberAt s (count s)
 
 abbrev pub fileOf : List ℕ → List ℕ
 fileOf s = take (fileLength s) s

@@ -1,7 +1,5 @@
 // The record's layout: the place of each field, said once. A field begins where the one before it ends: at that one's place plus its
 // width.
-use codec::head::HEAD;
-use codec::head::STRIDE;
 
 // In an awaited frame, from its first octet on.
 pub const TO_IN: usize = 1;
@@ -41,7 +39,7 @@ pub const ITEMS_IN: usize = 1;
 pub const LIST: usize = ITEMS_IN + 16 * MESSAGE;
 
 // The ring file's octets, and zeros behind them up to the longest ring file's length.
-pub const RING_ROOM: usize = HEAD + STRIDE * 64;
+pub const RING_ROOM: usize = codec::head::LONGEST;
 
 pub const OWN: usize = RING_ROOM;
 

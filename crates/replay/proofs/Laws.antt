@@ -4,4 +4,5 @@ pub mod Marks
 pub mod Days
 pub mod Running
 pub mod Refusing
+pub mod Opening
 pub mod Starting

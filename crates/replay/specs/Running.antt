@@ -9,7 +9,7 @@ use Rattle.capture.specs.Record.{readRecord}
 use Rattle.capture.specs.declared.record.Read.{Read}
 use Rattle.capture.specs.declared.record.Read.the-variants.{End, Refused, Good}
 use Rattle.day.specs.Day.{mostFrames}
-use Rattle.replay.specs.Runs.{Record, recordsFrom, Course, gone, goneText}
+use Rattle.replay.specs.Runs.{Record, heardFrom, Course, gone, goneText}
 use Rattle.replay.specs.Table.{Way, courseIn}
 use Rattle.replay.specs.declared.going.Going.{Going}
 
@@ -37,6 +37,7 @@ abbrev pub reading : Going → Read → Going
 reading g read =
     record {
       n = g .n;
+      channels = g .channels;
       wire = g .wire;
       at = g .at;
       done = g .done;
@@ -56,7 +57,7 @@ pub record Begins (w : Way) (room : ℕ) : Type 0 where
 
 -- the records of its turns
 abbrev pub recordsFor : Way → List ℕ → List Record
-recordsFor w s = recordsFrom (w .most) (w .n) s (w .at)
+recordsFor w s = heardFrom (w .n) (w .channels) (w .most) s (w .at)
 
 -- what they leave, and what they print
 abbrev pub courseAfter : Way → List Station → List ℕ → Course

@@ -1,9 +1,10 @@
 -- A run: the records of a capture one after the other, until one is refused.
+use mathlib.Core.Bool.{Bool}
 use mathlib.Core.List.{List, [], _∷_, _++_}
 use Prim.Native.Nat.{ℕ, zero, suc}
 use lib.Dec.{eqb}
 use lib.ListN.{length}
-use Rattle.codec.specs.Ring.{ringRefusal, count, limit}
+use Rattle.codec.specs.Ring.{ringRefusal, count, limit, ringOf, listens}
 use Rattle.parts.specs.Choose.{pick}
 use Rattle.bench.specs.Text.{answerText}
 use Rattle.capture.specs.Record.{captureNumber, readRecord}
@@ -11,6 +12,7 @@ use Rattle.capture.specs.declared.record.Event.{Event}
 use Rattle.capture.specs.declared.record.Read.{Read}
 use Rattle.capture.specs.declared.record.Read.the-variants.{End, Refused, Good}
 use Rattle.day.specs.Day.{Day, startDay}
+use Rattle.day.specs.Listening.{heardIn, asked}
 use Rattle.day.specs.Records.{afterRecord, eventNumber}
 use Rattle.day.specs.Printed.{startText, recordText, stoppedText, endText}
 
@@ -35,6 +37,16 @@ recordsFrom (suc k) n s at = readFirst (readRecord n s at) (λ (next : ℕ). rec
 -- a record has at least one octet
 abbrev pub recordsOf : ℕ → List ℕ → List Record
 recordsOf n s = recordsFrom (length s) n s 0
+
+-- each with what the ring file says of it: who listens on which channel
+unfoldable pub askedAll : (ℕ → ℕ → Bool) → List Record → List Record
+askedAll hears [] = []
+askedAll hears (good event ∷ rs) = good (asked hears event) ∷ askedAll hears rs
+askedAll hears (bad number ∷ rs) = bad number ∷ askedAll hears rs
+
+-- at most k of them from an offset on, in a ring of n with these open channels
+abbrev pub heardFrom : ℕ → List ℕ → ℕ → List ℕ → ℕ → List Record
+heardFrom n channels k s at = askedAll (heardIn n channels) (recordsFrom k n s at)
 
 -- ---- one after the other
 
@@ -96,9 +108,13 @@ dayText d rs = startText d ++ (goneText (begun d) rs ++ endText (gone (begun d) 
 unfoldable pub refusal : List ℕ → List ℕ → ℕ
 refusal file s = pick (eqb (ringRefusal file) 0) (captureNumber s) (ringRefusal file)
 
+-- the records of a capture, with what its ring file says of them
+abbrev pub recordsWith : List ℕ → List ℕ → List Record
+recordsWith file s = askedAll (listens (ringOf file)) (recordsOf (count file) s)
+
 -- what is printed of a ring file and a capture
 unfoldable pub output : List ℕ → List ℕ → List ℕ
 output file s =
     pick (eqb (refusal file s) 0)
-    (dayText (startDay (count file) (limit file)) (recordsOf (count file) s))
+    (dayText (startDay (count file) (limit file)) (recordsWith file s))
     (answerText (refusal file s))

@@ -35,6 +35,7 @@ use Rattle.day.specs.Plans.{handingFor, callFor, placeFor, planOf, noPlan}
 -- what is kept of it beside the table: `k` of `most` turns are done, what is printed ends at `used`, and the next record begins at `at`
 pub record Way : Type 0 where
   pub n : ℕ
+  pub channels : List ℕ
   pub wire : List Flying
   pub at : ℕ
   pub done : ℕ
@@ -47,6 +48,7 @@ abbrev pub wayOf : Going → Way
 wayOf g =
     record {
       n = g .n;
+      channels = g .channels;
       wire = flyingOf (g .wire);
       at = g .at;
       done = g .done;
@@ -83,6 +85,7 @@ abbrev pub movedOn : Way → List Flying → ℕ → ℕ → ℕ → ℕ → Way
 movedOn w wire at done number used =
     record {
       n = w .n;
+      channels = w .channels;
       wire = wire;
       at = at;
       done = done;

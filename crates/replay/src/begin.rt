@@ -2,7 +2,7 @@
 ghost use mathlib.Core.Path.{_≡_};
 ghost use Prim.Native.Nat.{_≤_};
 ghost use lib.ListN.{length};
-ghost use Rattle.codec.specs.Ring.{count, limit};
+ghost use Rattle.codec.specs.Ring.{count, limit, memberAt, ringOf};
 ghost use Rattle.replay.specs.Runs.{refusal};
 use capture::record::capture_number;
 use codec::head::head_of;
@@ -27,6 +27,20 @@ pub fn count_of(file: &[u8]) -> u8
 {
     let head = head_of(file);
     (head.others + 1) as u8
+}
+
+// The open channels of the members, and zeros behind them.
+pub fn channels_of(file: &[u8], n: usize) -> [u8; 64]
+    requires { ⌜ (n ≡ count (now file)) × (memberAt (now file) n ≤ length (now file)) ⌝ }
+    ensures { λ r. ⌜ r ≡ ringOf (now (file .entry)) .channels ⌝ }
+{
+    let mut channels = [0u8; 64];
+    let mut p = 0;
+    while p < n {
+        channels[p] = codec::channels::channels_at(file, p) as u8;
+        p += 1;
+    }
+    channels
 }
 
 // The retry limit.

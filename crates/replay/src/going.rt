@@ -28,6 +28,7 @@ use parts::live::Live;
 // `k` of `most` turns are done, what is printed ends at `used`, the next record begins at `at`; `read` is the record in hand.
 pub struct Going {
     pub n: u8,
+    pub channels: [u8; 64],
     pub wire: Frames,
     pub at: usize,
     pub done: usize,
@@ -87,8 +88,10 @@ pub fn go_on(g: Going, wire: Frames, next: usize, used: usize) -> Going
     ensures { λ r. ⌜ wayOf r ≡ movedOn (wayOf g) (flyingOf wire) next (g .done + 1) 0 used ⌝ }
 {
     let read = g.read;
+    let channels = g.channels;
     Going {
         n: g.n,
+        channels,
         wire,
         at: next,
         done: g.done + 1,
@@ -107,8 +110,10 @@ pub fn halt(g: Going, number: u32, used: usize) -> Going
 {
     let read = g.read;
     let wire = g.wire;
+    let channels = g.channels;
     Going {
         n: g.n,
+        channels,
         wire,
         at: g.at,
         done: g.done,

@@ -7,7 +7,7 @@ ghost use Rattle.bench.specs.Ring.{nobody};
 ghost use Rattle.day.specs.Day.{startDay};
 ghost use Rattle.day.specs.Printed.{startText, stationText};
 ghost use Rattle.replay.specs.Runs.{begun, refusal};
-ghost use Rattle.replay.specs.Replays.{courseOf, begunBy, isEnd, isOver, turnsIn, RanFrom};
+ghost use Rattle.replay.specs.Replays.{courseOf, begunBy, openBy, isEnd, isOver, turnsIn, RanFrom};
 use crate::going::Going;
 use bench::ring::Bench;
 use capture::record::Read;
@@ -17,6 +17,7 @@ use station::station::Station;
 // A course, and the offset of its next record.
 pub struct Replay {
     pub n: u8,
+    pub channels: [u8; 64],
     pub stations: [Station; 64],
     pub wire: Frames,
     pub at: usize,
@@ -36,9 +37,9 @@ pub struct Ran {
     pub used: usize,
 }
 
-// A ring of `n` with the retry limit `limit` begins.
-pub fn start(n: u8, limit: u8) -> Replay
-    ensures { λ r. ⌜ (courseOf r ≡ begun (startDay n limit)) × (r .at ≡ 0) ⌝ }
+// A ring of `n` with the retry limit `limit` and these open channels begins.
+pub fn start(n: u8, limit: u8, channels: [u8; 64]) -> Replay
+    ensures { λ r. ⌜ (courseOf r ≡ begun (startDay n limit)) × ((r .at ≡ 0) × (r .channels ≡ channels)) ⌝ }
 {
     let b = Bench::new(n, limit);
     let w = b.wire;
@@ -48,6 +49,7 @@ pub fn start(n: u8, limit: u8) -> Replay
     let stations = b.stations;
     Replay {
         n: b.n,
+        channels,
         stations,
         wire,
         at: 0,
@@ -59,16 +61,19 @@ pub fn start(n: u8, limit: u8) -> Replay
 // What a ring file and a capture begin. Where they are refused, it is a ring of none.
 pub fn begin(file: &[u8], capture: &[u8]) -> Begun
     ensures { λ r. ⌜ (r .number ≡ refusal (now (file .entry)) (now (capture .entry)))
-        × ((courseOf (r .replay) ≡ begunBy (now (file .entry)) (now (capture .entry))) × (r .replay .at ≡ 0)) ⌝ }
+        × ((courseOf (r .replay) ≡ begunBy (now (file .entry)) (now (capture .entry)))
+        × ((r .replay .at ≡ 0) × (r .replay .channels ≡ openBy (now (file .entry)) (now (capture .entry))))) ⌝ }
 {
     let number = crate::begin::refusal_of(file, capture);
     if number != 0 {
-        let replay = start(0, 0);
+        let none = [0u8; 64];
+        let replay = start(0, 0, none);
         return Begun { number, replay };
     }
     let n = crate::begin::count_of(file);
     let limit = crate::begin::limit_of(file);
-    let replay = start(n, limit);
+    let channels = crate::begin::channels_of(file, n as usize);
+    let replay = start(n, limit, channels);
     Begun { number, replay }
 }
 
@@ -131,8 +136,10 @@ impl Replay {
     {
         let most = turns_in(&*out, at, self.done);
         let wire = self.wire;
+        let channels = self.channels;
         let g = Going {
             n: self.n,
+            channels,
             wire,
             at: self.at,
             done: self.done,
@@ -149,6 +156,7 @@ impl Replay {
         let wire = e.wire;
         let replay = Replay {
             n: e.n,
+            channels,
             stations,
             wire,
             at: e.at,

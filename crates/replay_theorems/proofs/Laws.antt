@@ -7,6 +7,7 @@ pub mod Beginning
 pub mod Striking
 pub mod LiveRecords
 pub mod Reading
+pub mod SameKinds
 pub mod OnBench
 pub mod SameRun
 pub mod Offsets

@@ -7,6 +7,7 @@ pub mod StopsBefore
 pub mod FaultFree
 pub mod BoundHolds
 pub mod EveryCapture
+pub mod AllOpen
 pub mod Refused
 pub mod Calls
 pub mod CallsEnd

@@ -6,7 +6,7 @@ use lib.ListN.{length, getD, take, drop}
 use Rattle.bench.specs.Ring.{nobody}
 use Rattle.day.specs.Printed.{stationText}
 use Rattle.replay.specs.Running.{longest}
-use Rattle.replay.specs.Replays.{courseOf, begunBy, RanFrom}
+use Rattle.replay.specs.Replays.{courseOf, begunBy, openBy, RanFrom}
 use Rattle.replay.specs.declared.run.Replay.{Replay}
 use Rattle.replay.specs.declared.run.Ran.{Ran}
 
@@ -14,6 +14,7 @@ use Rattle.replay.specs.declared.run.Ran.{Ran}
 pub record BegunFrom (file s : List ℕ) (r : Replay) : Type 0 where
   pub course : courseOf r ≡ begunBy file s
   pub first : r .at ≡ 0
+  pub open-channels : r .channels ≡ openBy file s
 
 -- one call: its out buffer before and behind it, where in it the call begins to write, and what the call answers
 pub record RunCall : Type 0 where

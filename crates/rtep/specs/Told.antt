@@ -7,7 +7,7 @@ use lib.Dec.{ltb, eqb}
 use lib.ListN.{length, take, getD}
 use Rattle.codec.specs.Order.{firstOf}
 use Rattle.codec.specs.Octets.{laid}
-use Rattle.codec.specs.Ring.{Ring, readRing}
+use Rattle.codec.specs.Ring.{Ring, readRing, formRefusal, formed}
 use Rattle.packet_codec.specs.Packet.{longestPacket, size, wireOctets, packetOctets, readPacket, readNumber, writeRefusal, kept}
 use Rattle.packet_codec.specs.declared.packet.Short.{Short}
 use Rattle.packet_codec.specs.declared.packet.Head.{Head}
@@ -27,6 +27,12 @@ toldRing told ring = laid told 0 (ring .n ∷ ring .limit ∷ take (ring .n) (ri
 pub record RingTold (file told : List ℕ) (r : ℕ) (told′ : List ℕ) : Type 0 where
   pub answer : r ≡ readRing file .number
   pub told-is : told′ ≡ kept r told (toldRing told (readRing file .ring))
+
+-- a ring file in the form that is asked for: its octets, and how many they are
+pub record FormTold (asked : ℕ) (file out told : List ℕ) (r : ℕ) (out′ told′ : List ℕ) : Type 0 where
+  pub answer : r ≡ formRefusal asked file
+  pub out-is : out′ ≡ kept r out (laid out 0 (formed asked file))
+  pub told-is : told′ ≡ kept r told (length (formed asked file) ∷ [])
 
 -- ---- a packet as eight numbers
 

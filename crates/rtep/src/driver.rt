@@ -1,6 +1,6 @@
 // What a driver in C calls of a station: each call of the crate `driver_calls`, with its contract, under the name that C links.
 ghost use lib.ListN.{length};
-ghost use Rattle.driver_calls.specs.Calls.{Making, Starting, Hearing, Timing, ringIn, requestOf, Queueing, Taking};
+ghost use Rattle.driver_calls.specs.Calls.{Making, Starting, Hearing, Timing, ringKept, requestOf, Queueing, Taking};
 
 // Makes a station's record of a ring file and the station's own address.
 #[no_mangle]
@@ -57,7 +57,7 @@ pub extern "C" fn rtep_queue(
     channel: usize,
     payload: &[u8],
 ) -> u32
-    ensures { λ r. ⌜ Queueing (now (rec .entry)) (now (store .entry)) (requestOf (ringIn (now (rec .entry))) to priority channel (length (now (payload .entry)))) (now (payload .entry)) r (now (rec .exit)) (now (store .exit)) ⌝ }
+    ensures { λ r. ⌜ Queueing (now (rec .entry)) (now (store .entry)) (requestOf (ringKept (now (rec .entry))) to priority channel (length (now (payload .entry)))) (now (payload .entry)) r (now (rec .exit)) (now (store .exit)) ⌝ }
 {
     driver_calls::queueing::queue(rec, store, to, priority, channel, payload)
 }

@@ -6,7 +6,8 @@ ghost use lib.ListN.{length};
 ghost use Rattle.codec.specs.Octets.{laid};
 ghost use Rattle.packet_codec.specs.Packet.{shortPacket, packetOf};
 ghost use Rattle.rtep.specs.declared.Made.the-variants.{Nothing, Packet as Of};
-ghost use Rattle.rtep.specs.Told.{RingTold, valuesOf, shortValues, headValues, ReadTold, shortMade, headMade, madeOf, madeRefusal, WriteTold};
+ghost use Rattle.rtep.specs.Told.{RingTold, FormTold, valuesOf, shortValues, headValues, ReadTold, shortMade, headMade, madeOf, madeRefusal, WriteTold};
+use codec::forms::to_form;
 use codec::head::head_of;
 use codec::ring::members;
 use codec::ring::read_into;
@@ -62,6 +63,35 @@ pub extern "C" fn rtep_ring(file: &[u8], told: &mut [u64; 66]) -> u32
     let n = head.count();
     tell_ring(told, head.limit, members(&addresses, n));
     0
+}
+
+// Tells a ring file's length in the form that was asked for.
+fn form_told(asked: u64, file: &[u8], out: &mut [u8], told: &mut [u64; 1]) -> u32
+    requires { ⌜ (450 ≤ length (now out)) × (asked < 16) ⌝ }
+    ensures { λ r. ⌜ FormTold asked (now (file .entry)) (now (out .entry)) (now (told .entry)) r (now (out .exit)) (now (told .exit)) ⌝ }
+{
+    let f = to_form(asked, file, out);
+    if f.number != 0 {
+        return f.number;
+    }
+    *told = [f.octets as u64];
+    0
+}
+
+// The same ring in form 1.
+#[no_mangle]
+pub extern "C" fn rtep_to_form_1(file: &[u8], out: &mut [u8; 450], told: &mut [u64; 1]) -> u32
+    ensures { λ r. ⌜ FormTold 1 (now (file .entry)) (now (out .entry)) (now (told .entry)) r (now (out .exit)) (now (told .exit)) ⌝ }
+{
+    form_told(1, file, out, told)
+}
+
+// The same ring in form 2.
+#[no_mangle]
+pub extern "C" fn rtep_to_form_2(file: &[u8], out: &mut [u8; 450], told: &mut [u64; 1]) -> u32
+    ensures { λ r. ⌜ FormTold 2 (now (file .entry)) (now (out .entry)) (now (told .entry)) r (now (out .exit)) (now (told .exit)) ⌝ }
+{
+    form_told(2, file, out, told)
 }
 
 // The eight numbers of the packet that the octets make: identifier, priority, number, master, failing, named, channel, length.

@@ -1,7 +1,7 @@
 // What a driver asks before it lends memory, in any language: the layout's number, and sizes and places in octets.
 ghost use mathlib.Core.Path.{_≡_};
 ghost use Rattle.records.specs.Layout.{recordLength, storeLength, placeLength, stateAt, lostAt, givenUpAt};
-ghost use Rattle.rtep.specs.Sizes.{layoutNumber, outLength, octetsOf, toldNumbers, takenNumbers, packetNumbers, ringNumbers};
+ghost use Rattle.rtep.specs.Sizes.{layoutNumber, outLength, octetsOf, toldNumbers, takenNumbers, packetNumbers, ringNumbers, longestFile};
 use packet_codec::packet::Packet;
 use records::layout;
 
@@ -10,7 +10,7 @@ use records::layout;
 pub extern "C" fn rtep_layout() -> u32
     ensures { λ r. ⌜ r ≡ layoutNumber ⌝ }
 {
-    2
+    3
 }
 
 #[no_mangle]
@@ -72,6 +72,14 @@ pub extern "C" fn rtep_ring_size() -> usize
     ensures { λ r. ⌜ r ≡ octetsOf ringNumbers ⌝ }
 {
     528
+}
+
+// The longest ring file.
+#[no_mangle]
+pub extern "C" fn rtep_file_size() -> usize
+    ensures { λ r. ⌜ r ≡ longestFile ⌝ }
+{
+    codec::head::LONGEST
 }
 
 // Where in a record the state stands, one octet, and the two counts, four octets each.

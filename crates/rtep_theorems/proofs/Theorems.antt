@@ -3,4 +3,5 @@ pub mod OneAnswer
 pub mod ReadWrite
 pub mod WriteRead
 pub mod RingFile
+pub mod Forms
 pub mod Located

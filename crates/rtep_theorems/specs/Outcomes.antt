@@ -12,6 +12,7 @@ pub record Telling : Type 0 where
   pub number : ℕ
   pub told : List ℕ
 
+-- write, and a ring file in another form
 pub record Writing : Type 0 where
   pub number : ℕ
   pub out : List ℕ

@@ -1,9 +1,9 @@
--- A good ring, in the page's words, and the file that is written of it.
+-- A good ring, in the page's words, and the file of form 1 that is written of it.
 use Prim.Native.Nat.{ℕ, _/_, _%_, _^_, _≤_, _<_}
 use mathlib.Core.Path.{_≡_}
 use mathlib.Core.List.{List}
-use lib.ListN.{length, getD}
-use Rattle.codec.specs.Ring.{Ring, filled, ringFile}
+use lib.ListN.{length, getD, replicate}
+use Rattle.codec.specs.Ring.{Ring, allChannels, filled, ringFile}
 
 -- 48 bits, not zero, and the lowest bit of its first octet is 0
 pub record GoodAddress (a : ℕ) : Type 0 where
@@ -20,8 +20,17 @@ pub record GoodRing (limit : ℕ) (members : List ℕ) : Type 0 where
   pub good : (i : ℕ) → i < length members → GoodAddress (getD members i 0)
   pub apart : (i j : ℕ) → i < j → j < length members → getD members i 0 ≡ getD members j 0 → ⊥
 
+-- as form 1 says it: version 1, and every channel open
 abbrev pub ringWith : ℕ → List ℕ → Ring
-ringWith limit members = record { n = length members; limit = limit; addresses = filled members }
+ringWith limit members =
+    record {
+      form = 1;
+      n = length members;
+      limit = limit;
+      version = 1;
+      addresses = filled members;
+      channels = filled (replicate (length members) allChannels);
+    }
 
 abbrev pub fileWith : ℕ → List ℕ → List ℕ
 fileWith limit members = ringFile (ringWith limit members)

@@ -68,7 +68,7 @@ shaped w k ws = allOf (same (wordAt ws 0) w ∷ eqb (length ws) (k + 1) ∷ ever
 
 -- TO, PRIORITY, CHANNEL and LENGTH
 abbrev pub requestIn : List (List ℕ) → Request
-requestIn ws = record { to = valueAt ws 2; priority = valueAt ws 3; channel = valueAt ws 4; length = valueAt ws 5 }
+requestIn ws = record { to = valueAt ws 2; priority = valueAt ws 3; channel = valueAt ws 4; length = valueAt ws 5; listens = true }
 
 -- `ring N`, `queue FROM TO PRIORITY CHANNEL LENGTH`, `step COUNT`
 unfoldable pub lineOfWords : List (List ℕ) → Line

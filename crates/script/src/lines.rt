@@ -146,6 +146,7 @@ pub fn line_of(s: &[u8]) -> Line
                 priority: n.values[2],
                 channel: n.values[3],
                 length: n.values[4],
+                listens: true,
             };
             return Line::Queue {
                 from: n.values[0],

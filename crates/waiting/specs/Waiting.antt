@@ -143,10 +143,10 @@ fewest = 3
 
 -- in it the message and the foreign one are for station 1: one of no octets, one as long as one can be
 abbrev pub itsRequest : Request
-itsRequest = record { to = 1; priority = 9; channel = 0; length = 0 }
+itsRequest = record { to = 1; priority = 9; channel = 0; length = 0; listens = true }
 
 abbrev pub foreignRequest : Request
-foreignRequest = record { to = 1; priority = 5; channel = 0; length = 1492 }
+foreignRequest = record { to = 1; priority = 5; channel = 0; length = 1492; listens = true }
 
 -- a run that reaches both
 pub record ReachesBound (n : ℕ) (x : Spot) (b : Bench) (after : List Event) : Type 0 where

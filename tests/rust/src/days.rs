@@ -65,7 +65,7 @@ pub fn day(random: &mut Random) -> Made {
 /// The longest capture on the largest ring: messages and frames, and where it is `lossy`, lost frames and timers too. With a
 /// retry limit of 1 such a ring soon falls apart, and with 15 it lives on.
 pub fn longest(random: &mut Random, lossy: bool, retry_limit: u64) -> Made {
-    let ring = Ring { retry_limit, addresses: (1..=64).collect() };
+    let ring = Ring::plain(retry_limit, (1..=64).collect());
     let temper = if lossy { Temper::Lossy } else { Temper::Quiet };
     let capture = capture::capture(&events(random, &ring, temper, MOST_RECORDS));
     Made { ring: written(&ring), capture }
@@ -76,7 +76,7 @@ pub fn longest(random: &mut Random, lossy: bool, retry_limit: u64) -> Made {
 pub fn edges(random: &mut Random) -> Vec<Made> {
     let mut made = Vec::new();
     for members in [2, 33, 64] {
-        let ring = written(&Ring { retry_limit: 1, addresses: (1..=members).collect() });
+        let ring = written(&Ring::plain(1, (1..=members).collect()));
         let queue = Event::Queue { station: 0, destination: 1, priority: 9, channel: 3, length: 7 };
         let timer = Event::Timer { station: 1 };
         for event in [Event::Delivered, Event::LostForAddressee, Event::LostForAll, timer, queue] {
@@ -122,11 +122,23 @@ fn good_ring(random: &mut Random) -> Ring {
             addresses.push(address);
         }
     }
-    Ring { retry_limit, addresses }
+    let mut ring = Ring::plain(retry_limit, addresses);
+    if random.once_in(2) {
+        ring.form = 2;
+        ring.version = random.within(1..=2) as u64;
+        for open in &mut ring.open {
+            match random.below(6) {
+                0 => *open = [false; 8],
+                1 | 2 => open.iter_mut().for_each(|open| *open = !random.once_in(4)),
+                _ => {}
+            }
+        }
+    }
+    ring
 }
 
 fn written(ring: &Ring) -> Vec<u8> {
-    ring_file(1, ring.addresses.len() as u64 - 1, ring.retry_limit, 0, &ring.addresses)
+    ring.file()
 }
 
 /// Events that the reader takes; the last timer may be one too many.
@@ -264,16 +276,18 @@ fn bad_record(random: &mut Random, members: usize) -> [u8; capture::RECORD] {
 }
 
 fn damage_ring(random: &mut Random, file: &mut Vec<u8>) {
-    let members = (file.len() - 2) / 6;
-    let at = 2 + 6 * random.below(members);
-    match random.below(8) {
+    let octets = if file[0] >> 4 == 2 { 7 } else { 6 };
+    let members = (file.len() - 2) / octets;
+    let at = 2 + octets * random.below(members);
+    match random.below(9) {
         0 => file[0] ^= 0x10 << random.below(4),
-        1 => file[1] |= random.pick(&[1, 2, 3]),
-        2 => *file = ring_file(1, 0, 1, 0, &[2]),
-        3 => file[1] &= 0xC3,
-        4 => file[at] |= 1,
-        5 => file[at..at + 6].fill(0),
-        6 => file.copy_within(2..8, 2 + 6 * (members - 1)),
+        1 | 2 if octets == 7 => file[1] ^= file[1] & 3 ^ random.pick(&[0, 3]),
+        1 | 2 => file[1] |= random.pick(&[1, 2, 3]),
+        3 => *file = ring_file(1, 0, 1, 0, &[2]),
+        4 => file[1] &= 0xC3,
+        5 => file[at] |= 1,
+        6 => file[at..at + 6].fill(0),
+        7 => file.copy_within(2..8, 2 + octets * (members - 1)),
         _ => file.truncate(random.below(file.len())),
     }
 }
@@ -285,7 +299,7 @@ pub struct Seen {
 }
 
 /// What random days must have had. A number is that of a whole day's refusal, of a stop, or of a refused queue.
-const RARE: [&str; 28] = [
+const RARE: [&str; 30] = [
     "refused 1",
     "refused 2",
     "refused 3",
@@ -293,6 +307,7 @@ const RARE: [&str; 28] = [
     "refused 5",
     "refused 6",
     "refused 7",
+    "refused 27",
     "refused 24",
     "stopped 25",
     "stopped 36",
@@ -302,6 +317,7 @@ const RARE: [&str; 28] = [
     "queue 18",
     "queue 19",
     "queue 22",
+    "queue 28",
     "struck by another",
     "struck on hearing",
     "struck itself",

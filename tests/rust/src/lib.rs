@@ -10,6 +10,18 @@ pub mod yardstick;
 mod exports {
     extern "C" {
         pub fn rtep_ring(file: *const u8, len: usize, told: *mut [u64; 66]) -> u32;
+        pub fn rtep_to_form_1(
+            file: *const u8,
+            len: usize,
+            out: *mut [u8; 450],
+            octets: *mut [u64; 1],
+        ) -> u32;
+        pub fn rtep_to_form_2(
+            file: *const u8,
+            len: usize,
+            out: *mut [u8; 450],
+            octets: *mut [u64; 1],
+        ) -> u32;
         pub fn rtep_read(
             members: *const u64,
             n: usize,
@@ -88,7 +100,7 @@ mod exports {
 }
 
 /// Reads a ring file. Told: N, R, then the N addresses in ring order; numbers beyond stay.
-/// Gives 0 or 1 to 7.
+/// Gives 0, 1 to 7 or 27.
 #[inline]
 pub fn ring(file: &[u8], told: &mut [u64; 66]) -> u32 {
     // SAFETY: the pointers and the length are those of live Rust references.
@@ -103,6 +115,19 @@ pub fn number(given: u32) -> u32 {
 /// The offset that they give beside 12, as `RTEP_OFFSET` of the header; 0 beside any other number.
 pub fn offset(given: u32) -> u32 {
     given >> 16
+}
+
+/// The same ring in form 1 or 2, at the start of `out`. Told: how many octets it has. Gives 0, the reader's
+/// numbers or 26.
+#[inline]
+pub fn to_form(asked: u64, file: &[u8], out: &mut [u8; 450], octets: &mut [u64; 1]) -> u32 {
+    // SAFETY: the pointers and the length are those of live Rust references.
+    unsafe {
+        match asked {
+            1 => exports::rtep_to_form_1(file.as_ptr(), file.len(), out, octets),
+            _ => exports::rtep_to_form_2(file.as_ptr(), file.len(), out, octets),
+        }
+    }
 }
 
 /// Reads a packet against a ring's members. Told: identifier, priority, number, master, failing

@@ -9,14 +9,41 @@ pub mod day;
 pub mod ring;
 pub mod station;
 
-/// A good ring: R and the addresses in ring order. N is their count.
+/// The channels that a member listens on, from channel 0 on.
+pub type Open = [bool; 8];
+
+/// A good ring: R, the rule version, and the addresses in ring order, each with its open channels. N is their
+/// count. The form is that of the file that it was read from.
 #[derive(Debug, Clone, PartialEq, Eq)]
 pub struct Ring {
+    pub form: u64,
     pub retry_limit: u64,
+    pub version: u64,
     pub addresses: Vec<u64>,
+    pub open: Vec<Open>,
 }
 
 impl Ring {
+    /// What a file of form 1 says: version 1, and every channel open.
+    pub fn plain(retry_limit: u64, addresses: Vec<u64>) -> Ring {
+        let open = vec![[true; 8]; addresses.len()];
+        Ring { form: 1, retry_limit, version: 1, addresses, open }
+    }
+
+    /// Its only file.
+    pub fn file(&self) -> Vec<u8> {
+        let others = self.addresses.len() as u64 - 1;
+        if self.form == 1 {
+            return ring_file(1, others, self.retry_limit, 0, &self.addresses);
+        }
+        ring_file_2(others, self.retry_limit, self.version, &self.addresses, &self.open)
+    }
+
+    /// Form 1 has no room for a version, and none for channels.
+    pub fn fits_form_1(&self) -> bool {
+        self.version == 1 && self.open.iter().flatten().all(|open| *open)
+    }
+
     /// The position of the member with this address.
     pub fn position(&self, address: u64) -> Option<usize> {
         self.addresses.iter().position(|next| *next == address)
@@ -29,6 +56,7 @@ pub enum RingFault {
     Short,
     Form,
     ZeroBits,
+    Version,
     OneMember,
     NoRetry,
     Length,
@@ -42,6 +70,7 @@ impl RingFault {
             RingFault::Short => 1,
             RingFault::Form => 2,
             RingFault::ZeroBits => 3,
+            RingFault::Version => 27,
             RingFault::OneMember => 4,
             RingFault::NoRetry => 5,
             RingFault::Length => 1,
@@ -71,14 +100,17 @@ pub fn read_ring(file: &[u8]) -> Result<Ring, Vec<RingFault>> {
     let form = bits(file, &mut at, 4);
     let members = bits(file, &mut at, 6) as usize + 1;
     let retry_limit = bits(file, &mut at, 4);
-    let zero_bits = bits(file, &mut at, 2);
+    let last = bits(file, &mut at, 2);
 
     let mut faults = Vec::new();
-    if form != 1 {
+    if form != 1 && form != 2 {
         faults.push(RingFault::Form);
     }
-    if zero_bits != 0 {
+    if form != 2 && last != 0 {
         faults.push(RingFault::ZeroBits);
+    }
+    if form == 2 && last != 1 && last != 2 {
+        faults.push(RingFault::Version);
     }
     if members == 1 {
         faults.push(RingFault::OneMember);
@@ -86,11 +118,14 @@ pub fn read_ring(file: &[u8]) -> Result<Ring, Vec<RingFault>> {
     if retry_limit == 0 {
         faults.push(RingFault::NoRetry);
     }
-    if file.len() != 2 + 6 * members {
+    let length = if form == 2 { 2 + 7 * members } else { 2 + 6 * members };
+    if file.len() != length {
         faults.push(RingFault::Length);
     }
+    let member_bits = if form == 2 { 56 } else { 48 };
     let mut addresses = Vec::new();
-    while addresses.len() < members && at + 48 <= 8 * file.len() {
+    let mut open = Vec::new();
+    while addresses.len() < members && at + member_bits <= 8 * file.len() {
         let first_octet = file[at / 8];
         let address = bits(file, &mut at, 48);
         if address == 0 || first_octet % 2 == 1 {
@@ -100,12 +135,26 @@ pub fn read_ring(file: &[u8]) -> Result<Ring, Vec<RingFault>> {
             faults.push(RingFault::SeenEarlier);
         }
         addresses.push(address);
+        open.push(match form {
+            2 => std::array::from_fn(|_| bits(file, &mut at, 1) == 1),
+            _ => [true; 8],
+        });
     }
     if faults.is_empty() {
-        Ok(Ring { retry_limit, addresses })
+        let version = if form == 2 { last } else { 1 };
+        Ok(Ring { form, retry_limit, version, addresses, open })
     } else {
         Err(faults)
     }
+}
+
+/// A ring file in the form that is asked for, or the number of its refusal: the reader's own, then 26.
+pub fn to_form(asked: u64, file: &[u8]) -> Result<Vec<u8>, u32> {
+    let ring = read_ring(file).map_err(|faults| faults[0].number())?;
+    if asked == 1 && !ring.fits_form_1() {
+        return Err(26);
+    }
+    Ok(Ring { form: asked, ..ring }.file())
 }
 
 /// A packet, with the numbers that its kind has.
@@ -475,6 +524,22 @@ pub fn ring_file(
     file
 }
 
+/// The octets of a file of form 2 with these values, right or wrong.
+pub fn ring_file_2(
+    members_less_one: u64,
+    retry_limit: u64,
+    version: u64,
+    addresses: &[u64],
+    open: &[Open],
+) -> Vec<u8> {
+    let mut file = ring_file(2, members_less_one, retry_limit, version, &[]);
+    for (address, open) in addresses.iter().zip(open) {
+        put(&mut file, *address, 6);
+        put(&mut file, open.iter().fold(0, |bits, open| bits * 2 + u64::from(*open)), 1);
+    }
+    file
+}
+
 #[cfg(test)]
 mod tests {
     use super::*;
@@ -488,11 +553,11 @@ mod tests {
     fn the_page_ring_files() {
         let small = ring_file(1, 2, 2, 0, &addresses(3));
         assert_eq!((&small[..2], small.len()), (&[0x10, 0x88][..], 20));
-        assert_eq!(read_ring(&small), Ok(Ring { retry_limit: 2, addresses: addresses(3) }));
+        assert_eq!(read_ring(&small), Ok(Ring::plain(2, addresses(3))));
 
         let large = ring_file(1, 63, 15, 0, &addresses(64));
         assert_eq!((&large[..2], large.len()), (&[0x1F, 0xFC][..], 386));
-        assert_eq!(read_ring(&large), Ok(Ring { retry_limit: 15, addresses: addresses(64) }));
+        assert_eq!(read_ring(&large), Ok(Ring::plain(15, addresses(64))));
     }
 
     #[test]
@@ -506,6 +571,41 @@ mod tests {
         let file = ring_file(1, 2, 1, 0, &[2, 4, 4]);
         assert_eq!(read_ring(&file[..19]), Err(vec![Length]));
         assert_eq!(read_ring(&file), Err(vec![SeenEarlier]));
+    }
+
+    #[test]
+    fn form_2_octet_by_octet() {
+        let mut open = [[true; 8]; 2];
+        open[1] = [false, true, false, false, false, false, false, true];
+        let file = ring_file_2(1, 3, 2, &[2, 4], &open);
+        assert_eq!(file, [0x20, 0x4E, 0, 0, 0, 0, 0, 2, 0xFF, 0, 0, 0, 0, 0, 4, 0x41]);
+        let ring = Ring { form: 2, version: 2, open: open.to_vec(), ..Ring::plain(3, vec![2, 4]) };
+        assert_eq!(read_ring(&file), Ok(ring.clone()));
+        assert_eq!(ring.file(), file);
+        assert_eq!(to_form(2, &file), Ok(file.clone()));
+        assert_eq!(to_form(1, &file), Err(26));
+    }
+
+    #[test]
+    fn form_2_checks_in_their_order() {
+        use RingFault::*;
+        assert_eq!(read_ring(&[0x20, 0x03]), Err(vec![Version, OneMember, NoRetry, Length]));
+        assert_eq!(read_ring(&[0x20, 0x00]), Err(vec![Version, OneMember, NoRetry, Length]));
+        let open = [[false; 8]; 3];
+        let file = ring_file_2(2, 1, 1, &[2, 4, 4], &open);
+        assert_eq!(read_ring(&file), Err(vec![SeenEarlier]));
+        assert_eq!(read_ring(&file[..22]), Err(vec![Length]));
+        assert_eq!(read_ring(&ring_file(3, 1, 1, 0, &[2, 4])), Err(vec![Form]));
+    }
+
+    #[test]
+    fn there_and_back() {
+        let one = ring_file(1, 63, 15, 0, &addresses(64));
+        let two = to_form(2, &one).unwrap();
+        assert_eq!((&two[..2], two.len()), (&[0x2F, 0xFD][..], 450));
+        assert_eq!(to_form(1, &two), Ok(one.clone()));
+        assert_eq!(to_form(2, &two), Ok(two));
+        assert_eq!(to_form(1, &one), Ok(one));
     }
 
     #[test]

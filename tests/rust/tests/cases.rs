@@ -5,7 +5,7 @@
 //! address 2(i + 1); messages have 10 octets on channel 0 unless said otherwise.
 
 use rtep::model::station::{Frame, Kind, Message, State, Station, OUT, PLACE, RECORD, STORE};
-use rtep::model::{ring_file, Packet};
+use rtep::model::{ring_file, ring_file_2, Open, Packet};
 use std::fmt::Write;
 
 const EXPECTED: &str = include_str!("cases.txt");
@@ -14,6 +14,8 @@ const EXPECTED: &str = include_str!("cases.txt");
 fn cases() {
     let mut told = Told(String::new());
     ring_files(&mut told);
+    ring_files_of_form_2(&mut told);
+    ring_files_in_another_form(&mut told);
     packets_read(&mut told);
     packets_read_bad_at(&mut told);
     packets_written(&mut told);
@@ -65,9 +67,12 @@ fn position(address: u64) -> usize {
 
 fn made(members: usize, limit: u64, own: usize) -> Made {
     let addresses: Vec<u64> = (0..members).map(address).collect();
-    let file = ring_file(1, members as u64 - 1, limit, 0, &addresses);
+    made_of(&ring_file(1, members as u64 - 1, limit, 0, &addresses), own)
+}
+
+fn made_of(file: &[u8], own: usize) -> Made {
     let mut made = Made { record: vec![0; RECORD], store: vec![0; STORE] };
-    assert_eq!(rtep::make(&mut made.record, &file, address(own)), 0);
+    assert_eq!(rtep::make(&mut made.record, file, address(own)), 0);
     made
 }
 
@@ -189,7 +194,7 @@ impl Made {
     /// Both counts where they stop, too far for calls.
     fn at_stop(&self) -> Made {
         let mut made = self.clone();
-        made.record[405..413].fill(0xFF);
+        made.record[469..477].fill(0xFF);
         made
     }
 }
@@ -409,15 +414,58 @@ fn ring_files(told: &mut Told) {
     case("two octets that promise three addresses", &good[..2]);
     case("one octet short", &good[..19]);
     let mut odd = |words: &str, changes: &[(usize, u8)]| case(words, &changed(&good, changes));
-    odd("form number 2", &[(0, 0x20)]);
+    odd("form number 3", &[(0, 0x30)]);
     odd("a zero bit set", &[(1, 0x89)]);
     odd("N = 1", &[(1, 0x08)]);
     odd("R = 0", &[(1, 0x80)]);
-    odd("form 2, a zero bit and R = 0 at once", &[(0, 0x20), (1, 0x81)]);
+    odd("form 3, a zero bit and R = 0 at once", &[(0, 0x30), (1, 0x81)]);
     odd("the second address is zero", &[(13, 0)]);
     odd("the first address has its lowest first bit set", &[(2, 1)]);
     odd("the third address is the first again", &[(19, 2)]);
     odd("the second is the first again, and the third is bad", &[(13, 2), (14, 1)]);
+}
+
+const ALL: Open = [true; 8];
+const NONE: Open = [false; 8];
+/// All channels but 3.
+const NOT_3: Open = [true, true, true, false, true, true, true, true];
+
+fn ring_files_of_form_2(told: &mut Told) {
+    told.title("ring files of form 2");
+    let good = ring_file_2(2, 2, 1, &MEMBERS, &[ALL, NOT_3, NONE]);
+    let mut case = |words: &str, file: &[u8]| told.answer(words, rtep::ring(file, &mut [0; 66]));
+    case("N = 3, R = 2, version 1", &good);
+    case("one octet short", &good[..22]);
+    case("the length of form 1", &good[..20]);
+    let mut odd = |words: &str, changes: &[(usize, u8)]| case(words, &changed(&good, changes));
+    odd("version 2", &[(1, 0x8A)]);
+    odd("version 0", &[(1, 0x88)]);
+    odd("version 3", &[(1, 0x8B)]);
+    odd("version 3, N = 1 and R = 0 at once", &[(1, 0x03)]);
+    odd("N = 1 and R = 0 at once", &[(1, 0x01)]);
+    odd("the second address has its lowest first bit set", &[(9, 1)]);
+    odd("the third address is the first again, with other channels", &[(21, 2)]);
+}
+
+fn ring_files_in_another_form(told: &mut Told) {
+    told.title("ring files in another form");
+    let first = ring_file(1, 2, 2, 0, &MEMBERS);
+    let plain = ring_file_2(2, 2, 1, &MEMBERS, &[ALL; 3]);
+    let closed = ring_file_2(2, 2, 1, &MEMBERS, &[ALL, ALL, NOT_3]);
+    let second = ring_file_2(2, 2, 2, &MEMBERS, &[ALL; 3]);
+    let bad = ring_file_2(2, 2, 3, &MEMBERS, &[NONE; 3]);
+    let mut case = |words: &str, asked: u64, file: &[u8], given: &[u8]| {
+        let (mut out, mut octets) = ([0; 450], [0]);
+        told.answer(words, rtep::to_form(asked, file, &mut out, &mut octets));
+        assert_eq!(&out[..octets[0] as usize], given, "{words}");
+    };
+    case("form 1 to form 2", 2, &first, &plain);
+    case("version 1 and all channels open, to form 1", 1, &plain, &first);
+    case("form 1 to form 1", 1, &first, &first);
+    case("a closed channel, to form 2", 2, &closed, &closed);
+    case("a closed channel, to form 1", 1, &closed, b"");
+    case("version 2, to form 1", 1, &second, b"");
+    case("version 3 and closed channels, to form 1", 1, &bad, b"");
 }
 
 const MEMBERS: [u64; 3] = [2, 4, 6];
@@ -781,6 +829,16 @@ fn queues(told: &mut Told) {
     told.queue("16 before 17, 18 and 19", &full, [3, 5, 8, 1493]);
     told.queue("17 before 18 and 19", &full, [2, 5, 8, 1493]);
     told.queue("18 before 19", &full, [2, 5, 7, 1493]);
+    let addresses: Vec<u64> = (0..4).map(address).collect();
+    let file = ring_file_2(3, 1, 1, &addresses, &[ALL, ALL, NOT_3, NOT_3]);
+    let s = made_of(&file, 1).start().after.told(3, 2, 0);
+    told.queue("the destination has the channel closed", &s, [2, 5, 3, 10]);
+    told.queue("another one is open", &s, [2, 5, 2, 10]);
+    told.queue("another member has it open", &s, [0, 5, 3, 10]);
+    let full = s.fifteen_out().with(2, 5);
+    told.queue("16 before 28, 18 and 19", &full, [3, 5, 3, 1493]);
+    told.queue("17 before 18 and 19, with closed channels too", &full, [2, 5, 8, 1493]);
+    told.queue("28 before 18 and 19", &full, [2, 5, 3, 1493]);
 }
 
 fn takes(told: &mut Told) {

@@ -48,6 +48,8 @@ struct Tally<F> {
     pairs: BTreeMap<(F, F), u64>,
     /// Beside 12.
     offsets: BTreeMap<u32, u64>,
+    /// Ring files by the form that they say, the form that was asked for, and the answer.
+    forms: BTreeMap<(u8, u64, u32), u64>,
 }
 
 impl<F: Copy + Ord + Debug> Tally<F> {
@@ -62,6 +64,7 @@ impl<F: Copy + Ord + Debug> Tally<F> {
             alone: BTreeMap::new(),
             pairs: BTreeMap::new(),
             offsets: BTreeMap::new(),
+            forms: BTreeMap::new(),
         }
     }
 
@@ -205,7 +208,57 @@ fn check_ring(
             expected
         );
     }
+    check_forms(tally, random, family, file);
     tally.count(family, answer, &faults);
+}
+
+/// The same file asked for in either form, beside the model; where it was given, back again.
+fn check_forms(tally: &mut Tally<RingFault>, random: &mut Random, family: &str, file: &[u8]) {
+    let form = file.first().map_or(0, |first| first >> 4);
+    for asked in [1, 2] {
+        let given = to_form(random, asked, file);
+        let seed = tally.seed;
+        let input = || format!("to form {asked}, seed {seed:#x}, {family}, file {}", hex(file));
+        assert_eq!(given, model::to_form(asked, file), "{}", input());
+        *tally
+            .forms
+            .entry((form, asked, given.as_ref().err().copied().unwrap_or(0)))
+            .or_default() += 1;
+        if let Ok(other) = given {
+            assert_eq!(
+                to_form(random, form.into(), &other).as_deref(),
+                Ok(file),
+                "and back {}",
+                input()
+            );
+        }
+    }
+}
+
+/// What the library gives, with every octet of the out array and the number told looked at.
+fn to_form(random: &mut Random, asked: u64, file: &[u8]) -> Result<Vec<u8>, u32> {
+    let mut lent = Lent::new(random, 450);
+    let mut told = Told::<1>::new(random);
+    let (octets, numbers) = (lent.octets.clone(), told.numbers.clone());
+    let number = rtep::to_form(asked, file, lent.lend().try_into().unwrap(), told.lend());
+    if number != 0 {
+        assert!(
+            lent.octets == octets && told.numbers == numbers,
+            "{number} changed something: {}",
+            hex(file)
+        );
+        return Err(number);
+    }
+    let length = told.numbers[1] as usize;
+    assert_eq!((told.numbers[0], told.numbers[2]), (numbers[0], numbers[2]), "{}", hex(file));
+    let given = lent.lend()[..length].to_vec();
+    assert!(lent.octets[..lent.start] == octets[..lent.start], "before the array: {}", hex(file));
+    assert!(
+        lent.octets[lent.start + length..] == octets[lent.start + length..],
+        "behind it: {}",
+        hex(file)
+    );
+    Ok(given)
 }
 
 fn good_address(random: &mut Random) -> u64 {
@@ -261,7 +314,24 @@ fn good_file(random: &mut Random) -> Vec<u8> {
     };
     let retry_limit = random.within(1..=15) as u64;
     let addresses = good_addresses(random, members);
-    model::ring_file(1, members as u64 - 1, retry_limit, 0, &addresses)
+    if random.once_in(2) {
+        return model::ring_file(1, members as u64 - 1, retry_limit, 0, &addresses);
+    }
+    let version = random.pick(&[1, 1, 2]);
+    let open = open_channels(random, members);
+    model::ring_file_2(members as u64 - 1, retry_limit, version, &addresses, &open)
+}
+
+/// All open, or all but one, or any, or none.
+fn open_channels(random: &mut Random, members: usize) -> Vec<model::Open> {
+    let mut open = vec![[true; 8]; members];
+    match random.below(5) {
+        0 | 1 => {}
+        2 => open[random.below(members)][random.below(8)] = false,
+        3 => open.iter_mut().flatten().for_each(|open| *open = random.once_in(2)),
+        _ => open.fill([false; 8]),
+    }
+    open
 }
 
 /// Makes one part of the heading wrong: 0 form, 1 zero bits, 2 N-1, 3 R.
@@ -271,6 +341,7 @@ fn spoil_heading(random: &mut Random, file: &mut [u8], part: usize) {
             let form = (random.pick(&[0, 2, 3, 5, 9, 15, 4, 8])) << 4;
             file[0] = file[0] & 0x0F | form;
         }
+        1 if file[0] >> 4 == 2 => file[1] = file[1] & 0xFC | random.pick(&[0, 3]),
         1 => file[1] |= random.within(1..=3) as u8,
         2 => {
             file[0] &= 0xF0;
@@ -315,6 +386,26 @@ fn ring_files() {
         file.truncate(other);
         check_ring(&mut tally, random, "every heading with another length", &file);
     }
+    // Every heading of form 2, with members that fit its N; and again with another length, form 1's too.
+    for heading in 0x2000..=0x2FFFu64 {
+        for _ in 0..4 {
+            let members = (heading >> 6 & 63) as usize + 1;
+            let addresses = &pool[random.below(64)][..members];
+            let open = open_channels(random, members);
+            let mut file = model::ring_file_2(
+                heading >> 6 & 63,
+                heading >> 2 & 15,
+                heading & 3,
+                addresses,
+                &open,
+            );
+            check_ring(&mut tally, random, "every heading of form 2", &file);
+            let fits = file.len();
+            let other = random.pick(&[fits - 1, fits + 1, fits - 7, fits + 7, 2 + 6 * members]);
+            file.resize(other, 2);
+            check_ring(&mut tally, random, "every heading of form 2 with another length", &file);
+        }
+    }
     // One part of the heading wrong, and two: the length fits the heading's N or is wrong as well.
     for turn in 0..48_000 {
         let mut file = good_file(random);
@@ -337,14 +428,18 @@ fn ring_files() {
         let family = if both { "two parts wrong" } else { "one part wrong" };
         check_ring(&mut tally, random, family, &file);
     }
-    // A bad address, and an address seen earlier, at every place of every N.
+    // A bad address, and an address seen earlier, at every place of every N, in either form.
     for members in 2..=64usize {
         let retry_limit = random.within(1..=15) as u64;
+        let open = open_channels(random, members);
         for place in 0..members {
             for _ in 0..5 {
                 let mut addresses = pool[random.below(64)][..members].to_vec();
                 addresses[place] = bad_address(random);
                 let file = model::ring_file(1, members as u64 - 1, retry_limit, 0, &addresses);
+                check_ring(&mut tally, random, "bad address", &file);
+                let file =
+                    model::ring_file_2(members as u64 - 1, retry_limit, 1, &addresses, &open);
                 check_ring(&mut tally, random, "bad address", &file);
             }
             for earlier in 0..place {
@@ -352,11 +447,14 @@ fn ring_files() {
                 addresses[place] = addresses[earlier];
                 let file = model::ring_file(1, members as u64 - 1, retry_limit, 0, &addresses);
                 check_ring(&mut tally, random, "address seen earlier", &file);
+                let file =
+                    model::ring_file_2(members as u64 - 1, retry_limit, 2, &addresses, &open);
+                check_ring(&mut tally, random, "address seen earlier", &file);
             }
         }
     }
     // Several wrong addresses, sometimes with a wrong heading or length.
-    for _ in 0..24_000 {
+    for _ in 0..48_000 {
         let members = random.within(2..=64);
         let mut addresses = pool[random.below(64)][..members].to_vec();
         for _ in 0..random.within(1..=3) {
@@ -366,8 +464,14 @@ fn ring_files() {
                 _ => addresses[random.below(members)],
             };
         }
-        let retry_limit = random.within(1..=15) as u64;
-        let mut file = model::ring_file(1, members as u64 - 1, retry_limit, 0, &addresses);
+        let (others, retry_limit) = (members as u64 - 1, random.within(1..=15) as u64);
+        let mut file = match random.below(2) {
+            0 => model::ring_file(1, others, retry_limit, 0, &addresses),
+            _ => {
+                let (version, open) = (random.pick(&[1, 2]), open_channels(random, members));
+                model::ring_file_2(others, retry_limit, version, &addresses, &open)
+            }
+        };
         match random.below(8) {
             0 => spoil_heading(random, &mut file, 0),
             1 => spoil_heading(random, &mut file, 1),
@@ -421,8 +525,8 @@ fn ring_files() {
     use RingFault::*;
     tally.close(
         RING_FILES,
-        &[0, 1, 2, 3, 4, 5, 6, 7],
-        &[Short, Form, ZeroBits, OneMember, NoRetry, Length, BadAddress, SeenEarlier],
+        &[0, 1, 2, 3, 4, 5, 6, 7, 27],
+        &[Short, Form, ZeroBits, Version, OneMember, NoRetry, Length, BadAddress, SeenEarlier],
         &[
             (Form, ZeroBits),
             (Form, OneMember),
@@ -435,6 +539,11 @@ fn ring_files() {
             (ZeroBits, Length),
             (ZeroBits, BadAddress),
             (ZeroBits, SeenEarlier),
+            (Version, OneMember),
+            (Version, NoRetry),
+            (Version, Length),
+            (Version, BadAddress),
+            (Version, SeenEarlier),
             (OneMember, NoRetry),
             (OneMember, Length),
             (NoRetry, Length),
@@ -446,6 +555,13 @@ fn ring_files() {
             (SeenEarlier, BadAddress),
         ],
     );
+    let given = |form, asked, answer| tally.forms.get(&(form, asked, answer)).copied().unwrap_or(0);
+    let pairs = [(1, 1, 0), (1, 2, 0), (2, 1, 0), (2, 2, 0), (2, 1, 26)];
+    for (form, asked, answer) in pairs {
+        let count = given(form, asked, answer);
+        println!("  form {form} to {asked}, answer {answer}: {count}");
+        assert!(count >= EACH, "form {form} to {asked}: {answer} only {count} times");
+    }
 }
 
 // ---------------------------------------------------------------------------------------------
@@ -1199,12 +1315,13 @@ fn packets_written() {
 #[test]
 fn page_cases() {
     for (members, retry_limit, begins, length) in
-        [(3, 2, [0x10, 0x88], 20), (64, 15, [0x1F, 0xFC], 386)]
+        [(3, 2, [0x10, 0x88], 20), (64, 15, [0x1F, 0xFC], 386), (64, 15, [0x2F, 0xFD], 450)]
     {
         let addresses: Vec<u64> = (1..=members).collect();
         let mut file = begins.to_vec();
         for address in &addresses {
             file.extend(&address.to_be_bytes()[2..]);
+            file.extend([0xFF].iter().filter(|_| begins[0] >> 4 == 2));
         }
         assert_eq!(file.len(), length);
         let mut told = [0; 66];
@@ -1224,5 +1341,5 @@ fn page_cases() {
         let given = rtep::write(&[], &packet.numbers(), packet.information(), &mut out, &mut told);
         assert_eq!((given, told[1]), (0, wire));
     }
-    println!("page cases: 10 88 and 1F FC, four wire sizes");
+    println!("page cases: 10 88, 1F FC and 2F FD, four wire sizes");
 }

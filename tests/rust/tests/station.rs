@@ -19,7 +19,7 @@ const MADE_UP_SEED: u64 = 0x5254_4550_0000_0012;
 const DAMAGE_SEED: u64 = 0x5254_4550_0000_0013;
 
 /// The fewest calls of histories on rings of each size, of made-up records, and on damaged ones.
-const HISTORY_CALLS: [(usize, u64); 4] = [(2, 200_000), (3, 300_000), (5, 300_000), (64, 200_000)];
+const HISTORY_CALLS: [(usize, u64); 4] = [(2, 200_000), (3, 450_000), (5, 450_000), (64, 200_000)];
 const MADE_UP_CALLS: u64 = 600_000;
 const DAMAGED_RECORDS: u64 = 600_000;
 /// How often each number of each call, each move and each thing that happens must come.
@@ -28,16 +28,16 @@ const EACH: u64 = 100;
 // ---------------------------------------------------------------------------------------------
 // The record as docs/ lays it out
 
-const OWN: usize = 386;
-const STATE: usize = 387;
-const RETRIES: usize = 388;
-const HANDLED: usize = 389;
-const AWAITED: usize = 392;
-const LOST: usize = 405;
-const GIVEN_UP: usize = 409;
-const LIVE: usize = 413;
-const SEND: usize = 477;
-const RECEIVE: usize = 574;
+const OWN: usize = 450;
+const STATE: usize = 451;
+const RETRIES: usize = 452;
+const HANDLED: usize = 453;
+const AWAITED: usize = 456;
+const LOST: usize = 469;
+const GIVEN_UP: usize = 473;
+const LIVE: usize = 477;
+const SEND: usize = 541;
+const RECEIVE: usize = 638;
 
 const OFFLINE: u8 = 0;
 const IDLE: u8 = 1;
@@ -59,6 +59,11 @@ struct Message {
     length: usize,
 }
 
+/// Where a member begins in a ring file, or in a record.
+fn member_at(file: &[u8], position: usize) -> usize {
+    2 + if file[0] >> 4 == 2 { 7 } else { 6 } * position
+}
+
 /// A record that is whole, field by field.
 #[derive(Clone, Copy)]
 struct View<'a>(&'a [u8]);
@@ -71,7 +76,8 @@ impl View<'_> {
         self.0[1] >> 2 & 15
     }
     fn address(self, position: usize) -> u64 {
-        let octets = &self.0[2 + 6 * position..8 + 6 * position];
+        let at = member_at(self.0, position);
+        let octets = &self.0[at..at + 6];
         octets.iter().fold(0, |number, octet| number << 8 | u64::from(*octet))
     }
     fn position(self, address: u64) -> Option<usize> {
@@ -647,11 +653,11 @@ impl Comparison {
 
     /// Numbers that each call must have given, and nothing else.
     const NUMBERS: [(Event, &'static [u32]); 6] = [
-        (Event::Make, &[0, 1, 2, 3, 4, 5, 6, 7, 8, 35]),
+        (Event::Make, &[0, 1, 2, 3, 4, 5, 6, 7, 8, 27, 35]),
         (Event::Start, &[0, 9, 23, 35]),
         (Event::Frame, &[0, 9, 10, 11, 12, 13, 22, 35]),
         (Event::Timer, &[0, 9, 22, 35]),
-        (Event::Queue, &[0, 9, 14, 15, 16, 17, 18, 19, 22, 35]),
+        (Event::Queue, &[0, 9, 14, 15, 16, 17, 18, 19, 22, 28, 35]),
         (Event::Take, &[0, 9, 17, 20, 21, 35]),
     ];
 
@@ -821,8 +827,14 @@ fn ring_file(random: &mut Random, members: usize) -> RingFile {
         }
     }
     let limit = random.pick(&[1, 1, 1, 2, 2, 3, 7, 15]);
-    let file = model::ring_file(1, members as u64 - 1, limit as u64, 0, &addresses);
-    RingFile { file, limit, addresses }
+    let mut ring = model::Ring::plain(limit as u64, addresses.clone());
+    if random.once_in(2) {
+        (ring.form, ring.version) = (2, random.within(1..=2) as u64);
+        for open in ring.open.iter_mut().flatten() {
+            *open = !random.once_in(10);
+        }
+    }
+    RingFile { file: ring.file(), limit, addresses }
 }
 
 fn lengths(random: &mut Random) -> Lengths {
@@ -839,7 +851,10 @@ fn wrong_lengths(random: &mut Random) -> Lengths {
     let mut lens = lengths(random);
     for _ in 0..random.within(1..=2) {
         match random.below(3) {
-            0 => lens.record = random.pick(&[0, 1, 386, 574, RECORD - 1, RECORD + 1, RECORD + 64]),
+            0 => {
+                lens.record =
+                    random.pick(&[0, 1, 450, 638, 671, RECORD - 1, RECORD + 1, RECORD + 64])
+            }
             1 => lens.store = random.pick(&[0, PLACE, STORE / 2, STORE - 1, STORE + 1, STORE + 64]),
             _ => lens.out = random.pick(&[0, 45, 46, PLACE, OUT - 1]),
         }
@@ -1018,12 +1033,13 @@ fn make_call(random: &mut Random, ring: &RingFile) -> Call {
     }
     for _ in 0..random.pick(&[0, 0, 1, 1, 1, 2]) {
         let members = ring.addresses.len();
-        if file.len() < 2 + 6 * members {
+        if file.len() < 2 || file.len() < member_at(&file, members) {
             break;
         }
-        let place = 2 + 6 * random.below(members);
+        let place = member_at(&file, random.below(members));
         match random.below(9) {
             0 => file[0] ^= random.pick(&[0x10, 0x20, 0x40, 0x80]),
+            1 if file[0] >> 4 == 2 => file[1] = file[1] & 0xFC | random.pick(&[0, 3]),
             1 => file[1] |= random.pick(&[1, 2, 3]),
             2 => {
                 file[0] &= 0xF0;
@@ -1038,7 +1054,7 @@ fn make_call(random: &mut Random, ring: &RingFile) -> Call {
             6 => file[place] |= 1,
             7 => file[place..place + 6].fill(0),
             _ => {
-                let other = 2 + 6 * random.below(members);
+                let other = member_at(&file, random.below(members));
                 file.copy_within(other..other + 6, place);
             }
         }
@@ -1485,7 +1501,10 @@ fn damage(random: &mut Random, record: &mut [u8; RECORD], members: usize) {
         }
         10 => {
             // Two addresses exchanged, or one of them twice.
-            let (a, b) = (2 + 6 * random.below(members), 2 + 6 * random.below(members));
+            let (a, b) = (
+                member_at(record, random.below(members)),
+                member_at(record, random.below(members)),
+            );
             let first: [u8; 6] = record[a..a + 6].try_into().unwrap();
             record.copy_within(b..b + 6, a);
             if random.once_in(2) {
@@ -1620,6 +1639,10 @@ const CHANNEL_8: Fault = (17, |scene| match &mut scene.call {
     Call::Queue { channel, .. } | Call::Take { channel } => *channel = 8,
     _ => {}
 });
+const CLOSED: Fault = (28, |scene| {
+    let file = model::ring_file_2(2, 2, 1, &[2, 4, 6], &[[false; 8]; 3]);
+    scene.record[..file.len()].copy_from_slice(&file);
+});
 const PAYLOAD_LONG: Fault = (18, |scene| {
     if let Call::Queue { payload, .. } = &mut scene.call {
         payload.resize(PLACE + 1, 0);
@@ -1724,6 +1747,7 @@ fn order_of_checks() {
                 TO_ITSELF,
                 TO_STRUCK,
                 CHANNEL_8,
+                CLOSED,
                 PAYLOAD_LONG,
                 SEND_LIST_FULL,
             ],

@@ -3,7 +3,7 @@ use mathlib.Core.Path.{_≡_, refl, sym}
 use Prim.Native.Nat.{ℕ, zero, suc, _<_, _≤_}
 use native.Mathlib.Omega.{arith}
 use borrow.Author.Tests.{lt-leb}
-use Rattle.capture.specs.Record.{recordNumber, requestOf, eventOf, plainFields, eventFields, EventFits}
+use Rattle.capture.specs.Record.{recordNumber, requestOf, eventOf, plainFields, eventFields, EventFits, NotSaid}
 use Rattle.capture.specs.declared.record.Fields.{Fields}
 use Rattle.capture.specs.declared.record.Event.{Event}
 use Rattle.capture.specs.declared.record.Event.the-variants.{Delivered, LostForAddressee, LostForAll, Timer, Queue}
@@ -12,13 +12,13 @@ use Rattle.capture.proofs.Laws.Checks.{Passes}
 
 -- ---- from an event to its fields
 
-pub event-again : (e : Event) → eventOf (eventFields e) ≡ e
+pub event-again : (e : Event) → NotSaid e → eventOf (eventFields e) ≡ e
 unfolding eventOf eventFields
-event-again Delivered = refl
-event-again LostForAddressee = refl
-event-again LostForAll = refl
-event-again (Timer station) = refl
-event-again (Queue station q) = refl
+event-again Delivered u = refl
+event-again LostForAddressee u = refl
+event-again LostForAll u = refl
+event-again (Timer station) u = refl
+event-again (Queue station q) u = λ i. Queue station (record { to = q .to; priority = q .priority; channel = q .channel; length = q .length; listens = sym u i })
 
 pub fields-pass : (n : ℕ) (e : Event) → 1 ≤ n → EventFits n e → recordNumber n (eventFields e) ≡ 0
 unfolding recordNumber eventFields

@@ -1,14 +1,13 @@
 -- A record that is written reads as its event, and one that is read is written so again. Assumes nothing.
 use mathlib.Core.Path.{_≡_, refl, sym, ap, _∙_}
 use mathlib.Core.List.{List, _++_}
-use Prim.Native.Nat.{ℕ, zero, suc, _+_, _^_, _<_, _≤_, zero-le, suc-le-suc}
-use native.Mathlib.Nat.{mod-lt}
+use Prim.Native.Nat.{ℕ, _+_, _^_, _<_, _≤_}
 use native.Mathlib.Omega.{arith}
 use lib.ListN.{length, take, drop, length-append}
 use lib.Seq.{take-at, drop-at, take-all}
 use Rattle.codec.specs.Octets.{Octets, octets, number, numberAt}
-use Rattle.codec.proofs.Laws.Octets.{back, length-octets, length-part, octets-number, octets-take, octets-drop}
-use Rattle.capture.specs.Record.{recordLength, fieldsOf, fieldsAt, readRecord, eventFields, packed, recordOctets, EventFits}
+use Rattle.codec.proofs.Laws.Octets.{back, octets-small, length-octets, length-part, octets-number, octets-take, octets-drop}
+use Rattle.capture.specs.Record.{recordLength, fieldsOf, fieldsAt, readRecord, eventFields, packed, recordOctets, EventFits, NotSaid}
 use Rattle.capture.specs.declared.record.Fields.{Fields}
 use Rattle.capture.specs.declared.record.Event.{Event}
 use Rattle.capture.specs.declared.record.Read.the-variants.{Good}
@@ -18,11 +17,6 @@ use Rattle.capture.proofs.Laws.Events.{event-again, fields-pass, fields
 use Rattle.capture.proofs.Laws.Reading.{found, read-event}
 
 -- ---- written, then read
-
-octets-small : (k v : ℕ) → Octets (octets k v)
-octets-small zero v i = suc-le-suc zero-le
-octets-small (suc k) v zero = mod-lt _ (suc-le-suc zero-le)
-octets-small (suc k) v (suc i) = octets-small k v i
 
 packed-below : (f : Fields) → Within f → packed f < 256 ^ recordLength
 unfolding packed
@@ -36,17 +30,17 @@ fields-back f w =
     sym (fields-number r (octets-small recordLength (packed f)) (omega arith)) ∙ ap unpacked same ∙ unpacked-packed f w
 
 -- in a ring of n, wherever the record stands
-pub read-after-write : (n : ℕ) (e : Event) (front rest : List ℕ) → 1 ≤ n → n ≤ 64 → EventFits n e
+pub read-after-write : (n : ℕ) (e : Event) (front rest : List ℕ) → 1 ≤ n → n ≤ 64 → EventFits n e → NotSaid e
     → readRecord n (front ++ (recordOctets e ++ rest)) (length front) ≡ Good e (length front + recordLength)
 unfolding recordOctets
-read-after-write n e front rest one few fits =
+read-after-write n e front rest one few fits unsaid =
     let r : List ℕ = recordOctets e in
     let s : List ℕ = front ++ (r ++ rest) in
     let long : length r ≡ recordLength = length-octets recordLength (packed (eventFields e)) in
     let here : take recordLength (drop (length front) s) ≡ r = ap (take recordLength) (drop-at front (r ++ rest) (length front) refl) ∙ take-at r rest recordLength long in
     let fields : eventFields e ≡ fieldsAt s (length front) = sym (ap fieldsOf here ∙ fields-back (eventFields e) (fields-within n e few fits)) in
     let whole : length front + recordLength ≤ length s = rw (length-append front (r ++ rest), length-append r rest, long) (omega arith) in
-    sym (read-event n s (length front) whole (eventFields e) fields 0 (sym (fields-pass n e one fits)) e refl (sym (event-again e)))
+    sym (read-event n s (length front) whole (eventFields e) fields 0 (sym (fields-pass n e one fits)) e refl (sym (event-again e unsaid)))
 
 -- ---- read, then written
 

@@ -7,7 +7,7 @@ use lib.Dec.{eqb}
 use borrow.Author.Tests.{eqb-true, eqb-false}
 use lib.ListN.{length, getD}
 use Rattle.codec.specs.Octets.{Octets}
-use Rattle.codec.specs.Ring.{position}
+use Rattle.codec.specs.Ring.{position, readRing}
 use Rattle.packet_codec.specs.Packet.{kept}
 use Rattle.parts.specs.declared.frame.Frame.{Frame}
 use Rattle.parts.specs.declared.frame.Dispatch.the-variants.{Nothing, Sent}
@@ -18,11 +18,11 @@ use Rattle.station.specs.declared.station.Answer.{Answer}
 use Rattle.records.specs.Layout.{storeLength}
 use Rattle.driver_buffers.specs.Packets.{sentSize}
 use Rattle.driver_buffers.specs.Places.{received, queued}
-use Rattle.driver_calls.specs.Calls.{ringIn, ringOf, stationIn, recordWith, frameAnswer, Hearing, Queueing}
+use Rattle.driver_calls.specs.Calls.{ringIn, ringKept, ringOf, stationIn, recordWith, frameAnswer, Hearing, Queueing}
 use Rattle.driver_theorems.specs.Held.{Held, Sure, Keeps, by-frame, by-queue}
 use Rattle.driver_theorems.proofs.Theorems.Held.{held-sure, anew-reads, frame-sure, queue-sure}
 use Rattle.wire_theorems.specs.Wire.{OnWire, Conveyed, on-frame, madeOf}
-use Rattle.wire_theorems.proofs.Laws.Rings.{ring-is}
+use Rattle.wire_theorems.proofs.Laws.Rings.{ring-made, ring-is}
 use Rattle.wire_theorems.proofs.Laws.Laid.{length-put}
 use Rattle.wire_theorems.proofs.Theorems.Conveyed.{sends-conveyed, heard-as-sent}
 use Rattle.station.specs.declared.station.Payload.{Payload}
@@ -40,6 +40,9 @@ pub record Kept (file : List ℕ) (node : Node) : Type 0 where
 
 pub kept-ring : {file : List ℕ} {node : Node} → Kept file node → ringIn (node .rec) ≡ ringOf file
 kept-ring k = ring-is (k .held) ∙ ap ringOf (k .of-file)
+
+pub kept-whole : {file : List ℕ} {node : Node} → Kept file node → ringKept (node .rec) ≡ readRing file .ring
+kept-whole k = ring-made (k .held) ∙ ap (λ (x : List ℕ). readRing x .ring) (k .of-file)
 
 -- ---- stores
 

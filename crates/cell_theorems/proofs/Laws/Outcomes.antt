@@ -19,7 +19,7 @@ use Rattle.records.specs.Record.{recordOctets}
 use Rattle.driver_buffers.specs.Packets.{sentOctets}
 use Rattle.driver_buffers.specs.Places.{informationOf, queued}
 use Rattle.driver_buffers.specs.Telling.{toldOf}
-use Rattle.driver_calls.specs.Calls.{ringOf, ringIn, callNumber, badOut, badStore, badBuffers, recordWith, makeNumber, madeFrom, startAnswer, frameAnswer, queueAnswer, storeHeard, requestOf, Making, Sending, Hearing, Queueing}
+use Rattle.driver_calls.specs.Calls.{ringOf, ringIn, ringKept, callNumber, badOut, badStore, badBuffers, recordWith, makeNumber, madeFrom, startAnswer, frameAnswer, queueAnswer, storeHeard, requestOf, Making, Sending, Hearing, Queueing}
 use Rattle.rtep.specs.Sizes.{toldNumbers}
 use Rattle.cell_theorems.specs.Cell.{Node, Transit, Cell, members, addressAt, Lent, left, Begun, Started, HandedOn, Asking, QueueCall, Run, done, hand-on}
 use Rattle.cell_theorems.specs.Waiting.{handings}
@@ -166,7 +166,7 @@ module _ (node : Node) (q : Request) (payload : List ℕ) where
 
 module _ (file : List ℕ) (c : Cell) (a : Asking) where
   abbrev asks : Request
-  asks = requestOf (ringIn (c .node (a .at) .rec)) (a .to) (a .priority) (a .channel) (length (a .payload))
+  asks = requestOf (ringKept (c .node (a .at) .rec)) (a .to) (a .priority) (a .channel) (length (a .payload))
 
   askedNode : ℕ → Node
   askedNode p = pick (eqb p (a .at)) (queuedNode (c .node (a .at)) asks (a .payload)) (c .node p)

@@ -12,7 +12,8 @@ use Rattle.parts.specs.declared.request.Request.{Request}
 use Rattle.station.specs.Queue.{queueRule}
 use Rattle.station.specs.declared.station.Station.{Station}
 use Rattle.station.specs.declared.station.Answer.{Answer}
-use Rattle.driver_calls.specs.Calls.{ringIn, stationIn, requestOf}
+use Rattle.codec.specs.Ring.{Ring}
+use Rattle.driver_calls.specs.Calls.{ringKept, stationIn, requestOf}
 use Rattle.bench.specs.Ring.{stationAt, nobody}
 use Rattle.bench.specs.Calls.{queue, withStation}
 use Rattle.bench.specs.Runs.{queued, afterEvent}
@@ -24,7 +25,7 @@ use Rattle.bench_theorems.proofs.Laws.Queueing.{quiet-queue, queue-wire}
 use Rattle.bench_theorems.proofs.Theorems.ReachedQuiet.{event-n}
 use Rattle.cell_theorems.specs.Cell.{Node, Transit, Cell, members, Asking, QueueCall}
 use Rattle.cell_theorems.specs.AsBench.{requestIn, QueueNumbered}
-use Rattle.cell_theorems.proofs.Laws.Nodes.{Kept, kept-ring, queue-number, queue-station, queue-keeps}
+use Rattle.cell_theorems.proofs.Laws.Nodes.{Kept, kept-whole, queue-number, queue-station, queue-keeps}
 use Rattle.cell_theorems.proofs.Laws.Matching.{Carries, Matches}
 
 module _ (file : List ℕ) (c c′ : Cell) (b : Bench) (m : Matches file c b) (a : Asking) (s : QueueCall file a c c′) where
@@ -35,7 +36,7 @@ module _ (file : List ℕ) (c c′ : Cell) (b : Bench) (m : Matches file c b) (a
   q = requestIn file a
 
   abbrev asks : Request
-  asks = requestOf (ringIn (c .node (a .at) .rec)) (a .to) (a .priority) (a .channel) (length (a .payload))
+  asks = requestOf (ringKept (c .node (a .at) .rec)) (a .to) (a .priority) (a .channel) (length (a .payload))
 
   inside : a .at < b .n
   inside = omega (arith, m .size, s .member)
@@ -43,7 +44,7 @@ module _ (file : List ℕ) (c c′ : Cell) (b : Bench) (m : Matches file c b) (a
   answer-is : queueRule (stationIn (c .node (a .at) .rec)) asks ≡ queueRule (stationAt b (a .at)) q
   answer-is =
       ap (λ (x : Station). queueRule x asks) (m .stations p (s .member))
-      ∙ ap (λ (r : List ℕ). queueRule (stationAt b p) (requestOf r (a .to) (a .priority) (a .channel) (length (a .payload)))) (kept-ring (m .kept p (s .member)))
+      ∙ ap (λ (r : Ring). queueRule (stationAt b p) (requestOf r (a .to) (a .priority) (a .channel) (length (a .payload)))) (kept-whole (m .kept p (s .member)))
 
   bench-is : queue b (a .at) q ≡ record { bench = withStation b (a .at) (queueRule (stationAt b (a .at)) q .station); number = queueRule (stationAt b (a .at)) q .number }
   bench-is =

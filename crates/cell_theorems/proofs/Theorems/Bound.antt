@@ -9,7 +9,8 @@ use lib.ListN.{length}
 use Rattle.station.specs.Queue.{newMessage}
 use Rattle.station.specs.declared.station.Station.{Station}
 use Rattle.parts.specs.declared.request.Request.{Request}
-use Rattle.driver_calls.specs.Calls.{ringIn, stationIn, requestOf, Queueing}
+use Rattle.codec.specs.Ring.{Ring}
+use Rattle.driver_calls.specs.Calls.{ringKept, stationIn, requestOf, Queueing}
 use Rattle.wire_theorems.specs.Store.{ToSend, sendPayload}
 use Rattle.wire_theorems.proofs.Theorems.QueuedCarried.{queue-puts}
 use Rattle.bench.specs.Ring.{stationAt}
@@ -22,7 +23,7 @@ use Rattle.cell_theorems.specs.Cell.{Node, Cell, members, retries, Start
 use Rattle.cell_theorems.specs.AsBench.{events, benchAfter, requestIn, rows}
 use Rattle.cell_theorems.specs.Waiting.{spotIn, beforeIn, StaysOnTopIn, BoundIn}
 use Rattle.cell_theorems.proofs.Laws.Files.{two, most, low, high}
-use Rattle.cell_theorems.proofs.Laws.Nodes.{kept-ring}
+use Rattle.cell_theorems.proofs.Laws.Nodes.{kept-whole}
 use Rattle.cell_theorems.proofs.Laws.Own.{own-packet}
 use Rattle.cell_theorems.proofs.Laws.Matching.{Matches}
 use Rattle.cell_theorems.proofs.Laws.Queues.{call-number, queue-matches}
@@ -69,12 +70,12 @@ module _
         let k = matches .kept (a .at) (q .member) in
         let node : Node = c .node (a .at) in
         let after : Node = c₁ .node (a .at) in
-        let asks : Request = requestOf (ringIn (node .rec)) (a .to) (a .priority) (a .channel) (length (a .payload)) in
+        let asks : Request = requestOf (ringKept (node .rec)) (a .to) (a .priority) (a .channel) (length (a .payload)) in
         let call = subst (λ (n : ℕ). Queueing (node .rec) (node .store) asks (a .payload) n (after .rec) (after .store)) accepted (q .queues) in
         let d = queue-puts (k .held) (node .store) asks (a .payload) (after .rec) (after .store) refl call in
         let same : newMessage (stationIn (node .rec)) asks ≡ m =
         ap (λ (y : Station). newMessage y asks) (matches .stations (a .at) (q .member))
-        ∙ ap (λ (ring : List ℕ). newMessage (stationAt b (a .at)) (requestOf ring (a .to) (a .priority) (a .channel) (length (a .payload)))) (kept-ring k) in
+        ∙ ap (λ (ring : Ring). newMessage (stationAt b (a .at)) (requestOf ring (a .to) (a .priority) (a .channel) (length (a .payload)))) (kept-whole k) in
         (subst (λ (y : Message). ToSend y (after .rec)) same (d .stands), ap (sendPayload (after .store)) (sym same) ∙ d .holds)
 
     pub cell-bound : BoundIn file (spotIn c (a .at)) a r

@@ -1,12 +1,13 @@
 -- "For every N from 3 a run that reaches both figures": every good ring file has a cell that starts, and from every started cell of one with 3
--- members or more the calls run so. Assumes nothing.
+-- members or more, where member 1 listens on channel 0, the calls run so. Assumes nothing.
 use mathlib.Core.Path.{_≡_, refl, sym, ap, subst, _∙_}
 use mathlib.Core.List.{List, [], _∷_}
 use Prim.Native.Nat.{ℕ, zero, suc, _+_, _-_, _*_, _≤_}
 use native.Mathlib.Omega.{arith}
 use lib.ListN.{length}
 use Rattle.codec.specs.Octets.{zeros}
-use Rattle.codec.specs.Ring.{readRing, position}
+use mathlib.Core.Bool.{true}
+use Rattle.codec.specs.Ring.{readRing, position, listens}
 use Rattle.codec.specs.Sizes.{mostInformation}
 use Rattle.codec.proofs.Laws.Octets.{length-zeros}
 use Rattle.parts.specs.declared.request.Request.{Request}
@@ -42,21 +43,25 @@ module _ (file : List ℕ) (good : readRing file .number ≡ 0) where
   first-is : position (ringOf file) (addressAt file 1) ≡ 1
   first-is = position-is file good 1 (two file good)
 
-  its-is : requestIn file (itsAsking file) ≡ itsRequest
-  its-is = ap (λ (p : ℕ). let q : Request = record { to = p; priority = 9; channel = 0; length = 0 } in q) first-is
+  module _ (hears : listens (readRing file .ring) 1 0 ≡ true) where
+    heard : listens (readRing file .ring) (position (ringOf file) (addressAt file 1)) 0 ≡ true
+    heard = ap (λ (p : ℕ). listens (readRing file .ring) p 0) first-is ∙ hears
 
-  foreign-is : requestIn file (foreignAsking file) ≡ foreignRequest
-  foreign-is =
-      ap (λ (p : ℕ). let q : Request = record { to = p; priority = 5; channel = 0; length = length (zeros mostInformation) } in q) first-is
-      ∙ ap (λ (k : ℕ). let q : Request = record { to = 1; priority = 5; channel = 0; length = k } in q) (length-zeros mostInformation)
+    its-is : requestIn file (itsAsking file) ≡ itsRequest
+    its-is = λ i. record { to = first-is i; priority = 9; channel = 0; length = 0; listens = heard i }
 
-  events-are : events file (asked (foreignAsking file) ∷ []) ≡ foreignQueued (members file)
-  unfolding events
-  events-are = ap (λ (q : Request). queued (members file - 1) q ∷ []) foreign-is
+    foreign-is : requestIn file (foreignAsking file) ≡ foreignRequest
+    foreign-is =
+        let long : length (zeros mostInformation) ≡ 1492 = length-zeros mostInformation in
+        λ i. record { to = first-is i; priority = 5; channel = 0; length = long i; listens = heard i }
+
+    events-are : events file (asked (foreignAsking file) ∷ []) ≡ foreignQueued (members file)
+    unfolding events
+    events-are = ap (λ (q : Request). queued (members file - 1) q ∷ []) foreign-is
 
 -- ---- the run
 
-module _ (file : List ℕ) (three : fewest ≤ members file) (c₀ : Cell) (s : Started file c₀) where
+module _ (file : List ℕ) (three : fewest ≤ members file) (hears : listens (readRing file .ring) 1 0 ≡ true) (c₀ : Cell) (s : Started file c₀) where
   abbrev n : ℕ
   n = members file
 
@@ -90,7 +95,7 @@ module _ (file : List ℕ) (three : fewest ≤ members file) (c₀ : Cell) (s : 
   bench-tight : Tight n b
   bench-tight =
       let g = s .good in
-      subst (λ (es : List Event). Tight n (final (ringWith n (retries file)) es)) (sym (events-are file g)) (tight n (retries file) three (most file g) (low file g) (high file g))
+      subst (λ (es : List Event). Tight n (final (ringWith n (retries file)) es)) (sym (events-are file g hears)) (tight n (retries file) three (most file g) (low file g) (high file g))
 
   matches : Matches file c b
   matches = reached-matches s foreign-run
@@ -103,7 +108,7 @@ module _ (file : List ℕ) (three : fewest ≤ members file) (c₀ : Cell) (s : 
       → P (spotIn c 0) (requestIn file (itsAsking file)) (events file (handings (2 * members file + 3)))
   of-cell P t =
       subst (λ (x : Spot). P x (requestIn file (itsAsking file)) (events file (handings (2 * n + 3)))) (sym (spot-same matches 0 (its-call .member)))
-      (subst (λ (q : Request). P (spotFor b 0) q (events file (handings (2 * n + 3)))) (sym (its-is file (s .good)))
+      (subst (λ (q : Request). P (spotFor b 0) q (events file (handings (2 * n + 3)))) (sym (its-is file (s .good) hears))
       (subst (P (spotFor b 0) itsRequest) (sym (handings-are file (2 * n + 3))) t))
 
   reaches : ReachesIn file (spotIn c 0) (run .run)
@@ -127,7 +132,7 @@ module _ (file : List ℕ) (three : fewest ≤ members file) (c₀ : Cell) (s : 
         foreign-queued = foreign-run;
         c₁ = c₁;
         call = its-call;
-        accepted = call-number file c c₁ b matches (itsAsking file) its-call ∙ ap (λ (q : Request). queue b 0 q .number) (its-is file (s .good)) ∙ bench-tight .accepted;
+        accepted = call-number file c c₁ b matches (itsAsking file) its-call ∙ ap (λ (q : Request). queue b 0 q .number) (its-is file (s .good) hears) ∙ bench-tight .accepted;
         c₂ = run .last;
         run = run .run;
         stays = stays-back file (spotIn c 0) (its-call .member) 9 later (run .run) (of-cell (λ x q es. StaysOnTop x 9 (queue b 0 q .bench) es) (bench-tight .stays));

@@ -59,6 +59,17 @@ number-snoc (x ∷ xs) b =
     ap (λ (n : ℕ). x * 256 ^ n) (add-one (length xs)) ∙ ap (λ (n : ℕ). x * n) (pow-suc 256 (length xs)) ∙ sym (mul-assoc x (256 ^ length xs) 256) in
     rw (length-append xs (b ∷ []), number-snoc xs b, wider) (omega arith)
 
+pub octets-small : (k v : ℕ) → Octets (octets k v)
+octets-small zero v i = suc-le-suc zero-le
+octets-small (suc k) v zero = mod-lt _ (suc-le-suc zero-le)
+octets-small (suc k) v (suc i) = octets-small k v i
+
+-- what bounds two lists bounds them joined
+pub below-append : (b : ℕ) (s t : List ℕ) → ((i : ℕ) → getD s i 0 < b) → ((i : ℕ) → getD t i 0 < b) → (i : ℕ) → getD (s ++ t) i 0 < b
+below-append b [] t p q i = q i
+below-append b (x ∷ xs) t p q zero = p 0
+below-append b (x ∷ xs) t p q (suc i) = below-append b xs t (λ j. p (suc j)) q i
+
 -- ---- a part of a list
 
 -- one octet more is read

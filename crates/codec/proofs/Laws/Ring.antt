@@ -2,10 +2,11 @@
 use mathlib.Core.Path.{_≡_, refl, sym, ap, _∙_}
 use mathlib.Core.Bool.{Bool, true, false, cond}
 use mathlib.Core.List.{List, [], _∷_}
-use Prim.Native.Nat.{ℕ, zero, suc, _+_, _-_, _*_, _<_, _≤_, zero-le}
+use Prim.Native.Nat.{ℕ, zero, suc, _+_, _-_, _*_, _^_, _<_, _≤_, zero-le}
+use native.Mathlib.Nat.{add-assoc, mul-suc, mul-le-mul, mul-le-mul-left}
 use native.Mathlib.Numerals.{add-one}
 use native.Mathlib.Omega.{arith}
-use borrow.Author.Tests.{lt-ltb, le-ltb, ltb-false, eqb-true, eqb-false, not-false, ne-eqb}
+use borrow.Author.Tests.{lt-ltb, le-ltb, ltb-false, eqb-true, eqb-false, not-false, eq-eqb, ne-eqb}
 use lib.Dec.{eqb}
 use lib.ListN.{length, take, drop, getD, set, length-append, drop-of-length-le}
 use lib.Seq.{take-suc, drop-cons, take-at}
@@ -13,10 +14,48 @@ use Rattle.codec.specs.Order.{firstOf}
 use Rattle.codec.specs.Octets.{laid, zeros}
 use Rattle.codec.specs.Bits.{bits}
 use Rattle.codec.specs.declared.head.HeadBits.{HeadBits}
-use Rattle.codec.specs.Ring.{form, others, limit, zeroBits, headBits, count, headLength, fileOctets, addressesOf, headTests, addressTests, addressesTests, headRefusal, fieldRefusal, addressRefusal, addressesRefusal, ringRefusal, filled, ringOf, noRing, readRing}
+use Rattle.codec.specs.Ring.{form, others, limit, lastBits, headBits, countOf, count, headLength, stride, fileOctets, memberAt, addressesOf, channelsAt, channelsOf, isForm, lastBad, lastNumber, headTests, addressTests, addressesTests, headRefusal, fieldRefusal, addressRefusal, addressesRefusal, ringRefusal, filled, ringOf, noRing, readRing}
 use Rattle.codec.proofs.Laws.Bits.{bits-below}
-use Rattle.codec.proofs.Laws.Octets.{laid-behind, laid-start}
+use Rattle.codec.proofs.Laws.Octets.{below-append, laid-behind, laid-start}
 use Rattle.codec.proofs.Laws.Order.{Apart, first-append, none-gives, none-holds, first-passed, first-none, first-some}
+
+-- ---- the strides
+
+pub stride-most : (f : ℕ) → stride f ≤ 7
+stride-most f = go (eqb f 2)
+  where
+    go : (b : Bool) → cond b 7 6 ≤ 7
+    go true = omega arith
+    go false = omega arith
+
+pub stride-least : (f : ℕ) → 6 ≤ stride f
+stride-least f = go (eqb f 2)
+  where
+    go : (b : Bool) → 6 ≤ cond b 7 6
+    go true = omega arith
+    go false = omega arith
+
+pub octets-step : (f n : ℕ) → fileOctets f (n + 1) ≡ fileOctets f n + stride f
+octets-step f n =
+    ap (λ (k : ℕ). headLength + stride f * k) (add-one n)
+    ∙ ap (λ (k : ℕ). headLength + k) (mul-suc (stride f) n)
+    ∙ sym (add-assoc headLength (stride f * n) (stride f))
+
+pub octets-grow : (f m n : ℕ) → m ≤ n → fileOctets f m ≤ fileOctets f n
+octets-grow f m n h = let p : stride f * m ≤ stride f * n = mul-le-mul-left (stride f) h in omega (arith, p)
+
+pub octets-most : (f n : ℕ) → n ≤ 64 → fileOctets f n ≤ 450
+octets-most f n h = let p : stride f * n ≤ 7 * 64 = mul-le-mul (stride-most f) h in omega (arith, p)
+
+pub octets-room : (f i : ℕ) → i < 64 → fileOctets f i + 7 ≤ 450
+octets-room f i h =
+    let few : i ≤ 63 = omega arith in
+    let p : stride f * i ≤ 7 * 63 = mul-le-mul (stride-most f) few in
+    omega (arith, p)
+
+-- a member more has its stride behind the others
+pub member-within : (f i n : ℕ) → i < n → fileOctets f i + stride f ≤ fileOctets f n
+member-within f i n h = rw (← octets-step f i) (octets-grow f (i + 1) n (rw (add-one i) h))
 
 -- ---- the addresses one after the other
 
@@ -46,17 +85,32 @@ addresses-none ms i h = rw (drop-of-length-le ms h)
 pub length-addresses : (file : List ℕ) (n : ℕ) → length (addressesOf file n) ≡ n
 unfolding addressesOf
 length-addresses file zero = refl
-length-addresses file (suc n) = length-append (addressesOf file n) (bits file (fileOctets n * 8) 48 ∷ []) ∙ ap (λ (k : ℕ). k + 1) (length-addresses file n) ∙ add-one n
+length-addresses file (suc n) = length-append (addressesOf file n) (bits file (memberAt file n * 8) 48 ∷ []) ∙ ap (λ (k : ℕ). k + 1) (length-addresses file n) ∙ add-one n
+
+pub length-channels : (file : List ℕ) (n : ℕ) → length (channelsOf file n) ≡ n
+unfolding channelsOf
+length-channels file zero = refl
+length-channels file (suc n) = length-append (channelsOf file n) (channelsAt file n ∷ []) ∙ ap (λ (k : ℕ). k + 1) (length-channels file n) ∙ add-one n
+
+-- each address has 48 bits
+pub addresses-fit : (file : List ℕ) (n i : ℕ) → getD (addressesOf file n) i 0 < 2 ^ 48
+unfolding addressesOf
+addresses-fit file zero i = omega arith
+addresses-fit file (suc n) i = below-append (2 ^ 48) (addressesOf file n) (bits file (memberAt file n * 8) 48 ∷ []) (addresses-fit file n) one i
+  where
+    one : (i : ℕ) → getD (bits file (memberAt file n * 8) 48 ∷ []) i 0 < 2 ^ 48
+    one zero = bits-below file (memberAt file n * 8) 48
+    one (suc i) = omega arith
 
 -- one address more behind those that are laid over
 pub addresses-more-laid : (file l l₁ : List ℕ) (i : ℕ) → i < length l → l₁ ≡ laid l 0 (addressesOf file i)
-    → set l₁ i (bits file (fileOctets i * 8) 48) ≡ laid l 0 (addressesOf file (i + 1))
+    → set l₁ i (bits file (memberAt file i * 8) 48) ≡ laid l 0 (addressesOf file (i + 1))
 unfolding addressesOf
 addresses-more-laid file l l₁ i h e =
     let here : 0 + length (addressesOf file i) ≡ i = omega (arith, length-addresses file i) in
-    ap (λ (o : List ℕ). set o i (bits file (fileOctets i * 8) 48)) e
-    ∙ ap (λ (n : ℕ). set (laid l 0 (addressesOf file i)) n (bits file (fileOctets i * 8) 48)) (sym here)
-    ∙ laid-behind l (addressesOf file i) 0 (bits file (fileOctets i * 8) 48) (rw here h)
+    ap (λ (o : List ℕ). set o i (bits file (memberAt file i * 8) 48)) e
+    ∙ ap (λ (n : ℕ). set (laid l 0 (addressesOf file i)) n (bits file (memberAt file i * 8) 48)) (sym here)
+    ∙ laid-behind l (addressesOf file i) 0 (bits file (memberAt file i * 8) 48) (rw here h)
     ∙ rw (add-one i)
 
 -- the start of an array that a file's addresses are laid over
@@ -72,15 +126,22 @@ members-filled members n e = take-at members (zeros (64 - length members)) n e
 -- what a file is whose head passes
 pub record HeadGood (file : List ℕ) : Type 0 where
   pub long : 2 ≤ length file
-  pub form-one : form file ≡ 1
-  pub zero-bits : zeroBits file ≡ 0
+  pub a-form : isForm (form file) ≡ true
+  pub last-good : lastBad (form file) (lastBits file) ≡ false
   pub another : others file ≡ 0 → ⊥
   pub some-limit : limit file ≡ 0 → ⊥
-  pub sized : length file ≡ fileOctets (count file)
+  pub sized : length file ≡ memberAt file (count file)
+
+last-apart : (f : ℕ) → lastNumber f ≡ 0 → ⊥
+last-apart f = go (eqb f 2)
+  where
+    go : (b : Bool) → _≡_ {A = ℕ} (cond b 27 3) 0 → ⊥
+    go true z = omega (arith, z)
+    go false z = omega (arith, z)
 
 -- no refusal is 0
 head-apart : (file : List ℕ) → Apart 0 (headTests file)
-head-apart file = ((λ z. omega arith), ((λ z. omega arith), ((λ z. omega arith), ((λ z. omega arith), ((λ z. omega arith), ((λ z. omega arith), tt))))))
+head-apart file = ((λ z. omega arith), ((λ z. omega arith), (last-apart (form file), ((λ z. omega arith), ((λ z. omega arith), ((λ z. omega arith), tt))))))
 
 pub head-good : (file : List ℕ) → headRefusal file ≡ 0 → HeadGood file
 unfolding headRefusal
@@ -88,8 +149,8 @@ head-good file e =
     let n = none-holds 0 (headTests file) (head-apart file) e in
     record {
       long = ltb-false _ _ (n .0);
-      form-one = eqb-true _ _ (not-false _ (n .1 .0));
-      zero-bits = eqb-true _ _ (not-false _ (n .1 .1 .0));
+      a-form = not-false _ (n .1 .0);
+      last-good = n .1 .1 .0;
       another = eqb-false _ _ (n .1 .1 .1 .0);
       some-limit = eqb-false _ _ (n .1 .1 .1 .1 .0);
       sized = eqb-true _ _ (not-false _ (n .1 .1 .1 .1 .1 .0));
@@ -103,6 +164,36 @@ head-short file h = rw (lt-ltb (length file) headLength h)
 pub head-fields : (file : List ℕ) → headLength ≤ length file → headRefusal file ≡ fieldRefusal (headBits file) (length file)
 unfolding headRefusal fieldRefusal
 head-fields file h = rw (le-ltb (length file) headLength h)
+
+-- the refusals of the fields, in their order
+module _ (h : HeadBits) (size : ℕ) where
+  pub no-form : isForm (h .form) ≡ false → fieldRefusal h size ≡ 2
+  unfolding fieldRefusal
+  no-form f = rw f
+
+  module _ (f : isForm (h .form) ≡ true) where
+    pub bad-last : lastBad (h .form) (h .last) ≡ true → fieldRefusal h size ≡ lastNumber (h .form)
+    unfolding fieldRefusal
+    bad-last l = rw (f, l)
+
+    module _ (l : lastBad (h .form) (h .last) ≡ false) where
+      pub no-others : h .others ≡ 0 → fieldRefusal h size ≡ 4
+      unfolding fieldRefusal
+      no-others o = rw (f, l, o)
+
+      module _ (o : h .others ≡ 0 → ⊥) where
+        pub no-limit : h .limit ≡ 0 → fieldRefusal h size ≡ 5
+        unfolding fieldRefusal
+        no-limit r = rw (f, l, ne-eqb (h .others) 0 o, r)
+
+        module _ (r : h .limit ≡ 0 → ⊥) where
+          pub bad-size : (size ≡ fileOctets (h .form) (countOf h) → ⊥) → fieldRefusal h size ≡ 1
+          unfolding fieldRefusal
+          bad-size n = rw (f, l, ne-eqb (h .others) 0 o, ne-eqb (h .limit) 0 r, ne-eqb size (fileOctets (h .form) (countOf h)) n)
+
+          pub no-refusal : size ≡ fileOctets (h .form) (countOf h) → fieldRefusal h size ≡ 0
+          unfolding fieldRefusal
+          no-refusal e = rw (f, l, ne-eqb (h .others) 0 o, ne-eqb (h .limit) 0 r, eq-eqb size (fileOctets (h .form) (countOf h)) e)
 
 -- N − 1 is of 6 bits
 pub few-others : (file : List ℕ) (h : HeadBits) → h ≡ headBits file → h .others < 64

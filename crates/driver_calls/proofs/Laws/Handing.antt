@@ -1,20 +1,21 @@
 -- Laws of queue and take: what a refusal and an answer of 0 leave. Assumes nothing.
 use mathlib.Core.Path.{_≡_, ap, _∙_}
-use mathlib.Core.Bool.{true, false}
+use mathlib.Core.Bool.{Bool, true, false}
 use mathlib.Core.List.{List}
-use Prim.Native.Nat.{ℕ}
+use Prim.Native.Nat.{ℕ, _≤_}
 use borrow.Author.Tests.{eq-eqb, ne-eqb}
 use lib.ListN.{length, take}
+use Rattle.codec.specs.Ring.{count, memberAt, position, ringOf, listens}
 use Rattle.station.specs.Queue.{queueRule}
 use Rattle.station.specs.Take.{takeRule}
 use Rattle.parts.specs.declared.request.Request.{Request}
 use Rattle.station.specs.declared.station.Station.{Station}
 use Rattle.station.specs.declared.station.Answer.{Answer}
 use Rattle.records.specs.Layout.{storeLength}
-use Rattle.records.proofs.Laws.Load.{Held}
+use Rattle.records.proofs.Laws.Load.{Held, held-count, held-within, listens-held}
 use Rattle.driver_buffers.specs.Places.{queued, taken}
 use Rattle.driver_buffers.specs.Telling.{takenTold}
-use Rattle.driver_calls.specs.Calls.{ringIn, badStore, recordWith, queueAnswer, Queueing, takenInto, takeAnswer, Taking}
+use Rattle.driver_calls.specs.Calls.{ringKept, ringIn, requestFor, requestOf, badStore, recordWith, queueAnswer, Queueing, takenInto, takeAnswer, Taking}
 use Rattle.driver_calls.proofs.Laws.Calls.{Refusal, Done, kept-old}
 
 -- ---- the store's length
@@ -27,14 +28,27 @@ store-good {n} e = rw (eq-eqb n storeLength e)
 
 -- ---- queue
 
+-- what making the request requires
+pub request-fits : {rec addresses : List ℕ} {n : ℕ} {st : Station} → Held rec addresses n st → (ms : List ℕ) → ms ≡ take n addresses
+    → (length ms ≡ count rec) × (memberAt rec (length ms) ≤ length rec)
+request-fits {rec = rec} h ms em =
+    let long : length ms ≡ count rec = ap length em ∙ held-count h in
+    (long, rw long (held-within h))
+
 -- the answer as the code has it, with what it holds and the request that it made on its ring
 pub queue-answer : {rec addresses : List ℕ} {n : ℕ} {st : Station} → Held rec addresses n st
-    → (request : List ℕ → Request) (ms : List ℕ) (q : Request) (b : Answer) → ms ≡ take n addresses → q ≡ request ms
-    → b ≡ queueRule st q → b ≡ queueAnswer rec (request (ringIn rec))
-queue-answer {rec = rec} {st = st} h request ms q b em eq eb =
+    → (to priority channel size : ℕ) (ms : List ℕ) (q : Request) (b : Answer) → ms ≡ take n addresses
+    → q ≡ requestFor ms (ringOf rec) to priority channel size
+    → b ≡ queueRule st q → b ≡ queueAnswer rec (requestOf (ringKept rec) to priority channel size)
+queue-answer {rec = rec} {st = st} h to priority channel size ms q b em eq eb =
+    let heard : listens (ringOf rec) (position (ringIn rec) to) channel ≡ listens (ringKept rec) (position (ringIn rec) to) channel =
+    listens-held h (position (ringIn rec) to) channel in
     eb
-    ∙ ap (queueRule st) (eq ∙ ap request (em ∙ h .members))
-    ∙ ap (λ (x : Station). queueRule x (request (ringIn rec))) (h .station)
+    ∙ ap (queueRule st)
+    (eq
+    ∙ ap (λ (l : List ℕ). requestFor l (ringOf rec) to priority channel size) (em ∙ h .members)
+    ∙ ap (λ (t : Bool). let x : Request = record { to = position (ringIn rec) to; priority = priority; channel = channel; length = size; listens = t } in x) heard)
+    ∙ ap (λ (x : Station). queueRule x (requestOf (ringKept rec) to priority channel size)) (h .station)
 
 module _ {rec store : List ℕ} {q : Request} {payload : List ℕ} where
   pub not-queued : {r : ℕ} → Refusal (badStore (length store)) rec (queueAnswer rec q) r

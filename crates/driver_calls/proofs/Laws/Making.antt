@@ -14,6 +14,7 @@ use Rattle.codec.proofs.Laws.Ring.{HeadGood, head-good, head-passed, length-add
 use Rattle.station.specs.Stations.{made}
 use Rattle.records.specs.Layout.{recordLength, ringRoom}
 use Rattle.records.specs.Record.{recordOctets}
+use Rattle.records.proofs.Laws.Load.{file-room}
 use Rattle.driver_calls.specs.Calls.{membersOf, ringOf, makeNumber, Making}
 use Rattle.driver_calls.proofs.Laws.Calls.{kept-old}
 
@@ -31,7 +32,7 @@ module _ (file : List ℕ) (number : ℕ) (same : number ≡ ringRefusal file) (
   head-read = head-good file (head-passed file not-refused)
 
   pub file-fits : length file ≤ ringRoom
-  file-fits = omega (arith, head-read .sized, bits-below file 4 6)
+  file-fits = omega (arith, head-read .sized, file-room file)
 
   ring-read : readRing file .ring ≡ ringIs file
   ring-read = ap (λ (x : RingRead). x .ring) (read-good file not-refused)

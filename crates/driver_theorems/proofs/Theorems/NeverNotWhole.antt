@@ -65,7 +65,7 @@ timer-other : (s : Station) → Gives Other (timerRule s)
 unfolding timerRule
 timer-other s = moved-gives Other of-moves s _ _ (on-timer-other s (awaitedOf s))
 
--- 14 to 19
+-- 14 to 19 and 28
 refusal-other : (n own : ℕ) (live : Bool) (len : ℕ) (q : Request) → Other (queueRefusal n own live len q)
 unfolding queueRefusal
 refusal-other n own live len q =
@@ -75,6 +75,7 @@ refusal-other n own live len q =
     let d : Other 17 = λ z. omega (arith, z) in
     let e : Other 18 = λ z. omega (arith, z) in
     let f : Other 19 = λ z. omega (arith, z) in
+    let g : Other 28 = λ z. omega (arith, z) in
     let ts : List (Bool × ℕ) =
     (eqb (q .priority) 0, 14)
     ∷ (ltb 255 (q .priority), 14)
@@ -82,10 +83,11 @@ refusal-other n own live len q =
     ∷ (eqb (q .to) own, 15)
     ∷ (not live, 16)
     ∷ (ltb 7 (q .channel), 17)
+    ∷ (not (q .listens), 28)
     ∷ (ltb 1492 (q .length), 18)
     ∷ (leb 16 len, 19)
     ∷ [] in
-    first-gives Other 0 ts not-0 (a, (a, (b, (b, (c, (d, (e, (f, tt))))))))
+    first-gives Other 0 ts not-0 (a, (a, (b, (b, (c, (d, (g, (e, (f, tt)))))))))
 
 queue-other : (s : Station) (q : Request) → Gives Other (queueRule s q)
 unfolding queueRule accepted

@@ -18,6 +18,7 @@ pub record QueueGood (n own : ℕ) (live : Bool) (len : ℕ) (q : Request) : Typ
   pub another : q .to ≡ own → ⊥
   pub lives : live ≡ true
   pub channel-fits : q .channel ≤ 7
+  pub heard : q .listens ≡ true
   pub length-fits : q .length ≤ 1492
   pub room : len < 16
 
@@ -27,8 +28,8 @@ pub queue-good : (n own : ℕ) (live : Bool) (len : ℕ) (q : Request) → queue
 unfolding queueRefusal
 queue-good n own live len q e =
     let h = none-holds 0
-    ((eqb (q .priority) 0, 14) ∷ (ltb 255 (q .priority), 14) ∷ (leb n (q .to), 15) ∷ (eqb (q .to) own, 15) ∷ (not live, 16) ∷ (ltb 7 (q .channel), 17) ∷ (ltb 1492 (q .length), 18) ∷ (leb 16 len, 19) ∷ [])
-    ((λ z. omega arith), ((λ z. omega arith), ((λ z. omega arith), ((λ z. omega arith), ((λ z. omega arith), ((λ z. omega arith), ((λ z. omega arith), ((λ z. omega arith), tt)))))))) e in
+    ((eqb (q .priority) 0, 14) ∷ (ltb 255 (q .priority), 14) ∷ (leb n (q .to), 15) ∷ (eqb (q .to) own, 15) ∷ (not live, 16) ∷ (ltb 7 (q .channel), 17) ∷ (not (q .listens), 28) ∷ (ltb 1492 (q .length), 18) ∷ (leb 16 len, 19) ∷ [])
+    ((λ z. omega arith), ((λ z. omega arith), ((λ z. omega arith), ((λ z. omega arith), ((λ z. omega arith), ((λ z. omega arith), ((λ z. omega arith), ((λ z. omega arith), ((λ z. omega arith), tt))))))))) e in
     record {
       some-priority = eqb-false _ _ (h .0);
       priority-fits = ltb-false _ _ (h .1 .0);
@@ -36,6 +37,7 @@ queue-good n own live len q e =
       another = eqb-false _ _ (h .1 .1 .1 .0);
       lives = not-false _ (h .1 .1 .1 .1 .0);
       channel-fits = ltb-false _ _ (h .1 .1 .1 .1 .1 .0);
-      length-fits = ltb-false _ _ (h .1 .1 .1 .1 .1 .1 .0);
-      room = leb-false _ _ (h .1 .1 .1 .1 .1 .1 .1 .0);
+      heard = not-false _ (h .1 .1 .1 .1 .1 .1 .0);
+      length-fits = ltb-false _ _ (h .1 .1 .1 .1 .1 .1 .1 .0);
+      room = leb-false _ _ (h .1 .1 .1 .1 .1 .1 .1 .1 .0);
     }

@@ -10,17 +10,17 @@ use lib.Dec.{eqb}
 use lib.ListN.{length, take, drop, getD, List·getD-append}
 use lib.Seq.{take-append-le, take-at, drop-cons, getD-append-add}
 use Rattle.codec.specs.Octets.{zeros, firstNonzero}
-use Rattle.codec.specs.Ring.{fileOctets, readRing}
+use Rattle.codec.specs.Ring.{form, count, fileOctets, readRing}
 use Rattle.codec.proofs.Laws.Ring.{HeadGood, head-good, head-passed, read-zero}
 use Rattle.records.specs.Layout.{ringRoom}
 use Rattle.records.specs.Record.{fileLength, fileOf, padGood, ringOctets}
-use Rattle.records.proofs.Laws.Load.{count-front, file-room}
+use Rattle.records.proofs.Laws.Load.{form-front, count-front, file-room}
 use Rattle.record_theorems.proofs.Laws.Goes.{Goes}
 
 -- ---- how long a ring file says that it is: its first two octets say it
 
 length-front : (f t : List ℕ) → 2 ≤ length f → fileLength (f ++ t) ≡ fileLength f
-length-front f t h = ap fileOctets (count-front f t h)
+length-front f t h = ap (λ (k : ℕ). fileOctets k (count (f ++ t))) (form-front f t h) ∙ ap (fileOctets (form f)) (count-front f t h)
 
 -- ---- zeros
 

@@ -10,9 +10,10 @@ use lib.ListN.{length, take, drop, take-append-drop}
 use lib.Seq.{length-take-le}
 use Rattle.codec.specs.Bits.{bits}
 use Rattle.codec.specs.Octets.{laid}
-use Rattle.codec.specs.Ring.{RingRead, count, limit, addressesOf, filled, ringOf}
+use Rattle.codec.specs.Ring.{RingRead, form, count, limit, memberAt, addressesOf, filled, ringOf, listens}
 use Rattle.codec.proofs.Laws.Bits.{bits-below}
-use Rattle.codec.proofs.Laws.Ring.{read-zero, read-good, few-members, length-addresses, members-filled, members-laid}
+use Rattle.codec.proofs.Laws.Ring.{HeadGood, head-good, head-passed, octets-most, read-zero, read-good, few-members, length-addresses, members-filled, members-laid}
+use Rattle.codec.proofs.Laws.Front.{listens-front}
 use Rattle.parts.specs.Choose.{pick, allOf}
 use Rattle.parts.proofs.Laws.Tests.{held, hold}
 use Rattle.wholeness.specs.Whole.{restBlank, ringGood, whole}
@@ -80,7 +81,13 @@ no-record s =
     (failed (not (fieldsGood s)) _
     (failed (not (whole (stationOf s))) (wholeOf (ringFrom s) (stationOf s)) (λ e. absurd (true≢false e)))))
 
--- ---- the first two octets say how many members there are, and the retry limit
+-- ---- the first two octets say the form, how many members there are, and the retry limit
+
+pub form-front : (f t : List ℕ) → 2 ≤ length f → form (f ++ t) ≡ form f
+unfolding bits
+form-front [] t h = absurd (omega arith)
+form-front (x ∷ []) t h = absurd (omega arith)
+form-front (x ∷ y ∷ f) t h = refl
 
 pub count-front : (f t : List ℕ) → 2 ≤ length f → count (f ++ t) ≡ count f
 unfolding bits
@@ -95,7 +102,7 @@ limit-front (x ∷ []) t h = absurd (omega arith)
 limit-front (x ∷ y ∷ f) t h = refl
 
 pub file-room : (s : List ℕ) → fileLength s ≤ ringRoom
-file-room s = omega (arith, bits-below s 4 6)
+file-room s = octets-most (form s) (count s) (omega (arith, bits-below s 4 6))
 
 pub length-file : (s : List ℕ) → length s ≡ recordLength → length (fileOf s) ≡ fileLength s
 length-file s sized = length-take-le (fileLength s) s (omega (arith, file-room s))
@@ -139,6 +146,33 @@ pub record Held (s addresses : List ℕ) (n : ℕ) (st : Station) : Type 0 where
   pub ok : readRecord s .ok ≡ true
   pub members : take n addresses ≡ take (readRecord s .ring .n) (readRecord s .ring .addresses)
   pub station : st ≡ readRecord s .station
+
+-- how many members it has, that its ring file is within it, and who listens, as its octets say it
+module _ {s addresses : List ℕ} {n : ℕ} {st : Station} (h : Held s addresses n st) where
+  whole-held : WholeRecord s
+  whole-held = whole-record s (h .ok)
+
+  pub held-count : length (take n addresses) ≡ count s
+  held-count =
+      let w = whole-held in
+      ap length (h .members)
+      ∙ ap (λ (x : Loaded). length (take (x .ring .n) (x .ring .addresses))) (w .loaded)
+      ∙ ap (λ (k : ℕ). length (take k (ringFrom s .ring .addresses))) (ring-count s (w .sized) (w .good-ring))
+      ∙ ap length (ring-members s (w .sized) (w .good-ring))
+      ∙ length-addresses (fileOf s) (count s)
+
+  pub held-within : memberAt s (count s) ≤ length s
+  held-within = let room : fileLength s ≤ ringRoom = file-room s in omega (arith, room, h .sized)
+
+  pub listens-held : (p channel : ℕ) → listens (ringOf s) p channel ≡ listens (readRecord s .ring) p channel
+  listens-held p channel =
+      let w = whole-held in
+      let f : List ℕ = fileOf s in
+      let g : HeadGood f = head-good f (head-passed f (read-zero f (w .good-ring))) in
+      ap (λ (x : List ℕ). listens (ringOf x) p channel) (sym (file-split s (w .sized) (w .good-ring)))
+      ∙ listens-front f (drop (fileLength s) s) (g .long) p channel (rw (g .sized) (omega arith))
+      ∙ ap (λ (x : RingRead). listens (x .ring) p channel) (sym (ring-read s (w .sized) (w .good-ring)))
+      ∙ ap (λ (x : Loaded). listens (x .ring) p channel) (sym (w .loaded))
 
 -- ---- opening it, step by step
 

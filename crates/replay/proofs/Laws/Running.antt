@@ -31,8 +31,9 @@ use Rattle.capture.specs.declared.record.Read.{Read}
 use Rattle.capture.specs.declared.record.Read.the-variants.{End, Refused, Good}
 use Rattle.capture.proofs.Laws.Reading.{found, refused-is}
 use Rattle.day.specs.Day.{joining}
+use Rattle.day.specs.Listening.{heardIn, asked, askedRead}
 use Rattle.day.specs.Printed.{struckText, stoppedText}
-use Rattle.replay.specs.Runs.{Record, good, bad, readFirst, recordsFrom, Course, turn, turnText, gone, goneText}
+use Rattle.replay.specs.Runs.{Record, good, bad, readFirst, recordsFrom, askedAll, heardFrom, Course, turn, turnText, gone, goneText}
 use Rattle.replay.specs.Running.{nextOffset, offsetBehind, Begins, recordsFor, courseAfter, textOf, AllDone}
 use Rattle.day.specs.Strikes.{span, marksText, takenText}
 use Rattle.replay.specs.Table.{Way, courseIn, recordsIn, planIn, movedOn, halted, onward, joinedBy, timerLines, afterTaken, afterTimer, afterEvent, eventText, afterRead, readText, goesOn, tableIn, wayAfter, textAfter}
@@ -94,13 +95,14 @@ read-short w (Good e next) h t a most = event-short w e h t a most
 -- the ring stays, one turn more is done, what is printed ends behind its lines, and no more than 64 frames are on the wire
 pub record Moved (w : Way) (lines : List ℕ) (w₁ : Way) : Type 0 where
   pub members : w₁ .n ≡ w .n
+  pub heard : w₁ .channels ≡ w .channels
   pub same : w₁ .most ≡ w .most
   pub next : w₁ .k ≡ w .k + 1
   pub end : w₁ .used ≡ w .used + length lines
   pub few : length (w₁ .wire) ≤ 64
 
 moved-on : (w : Way) (wire : List Flying) (at done number : ℕ) (lines : List ℕ) → length wire ≤ 64 → Moved w lines (movedOn w wire at done number (w .used + length lines))
-moved-on w wire at done number lines few = record { members = refl; same = refl; next = refl; end = refl; few = few }
+moved-on w wire at done number lines few = record { members = refl; heard = refl; same = refl; next = refl; end = refl; few = few }
 
 take-short : (k : ℕ) (l : List Flying) → length (take k l) ≤ k
 take-short zero l = omega arith
@@ -180,15 +182,22 @@ event-below s at =
     first-place (Queue (f .station) (requestOf f)) ((eqb (f .kind) 0, Delivered) ∷ (eqb (f .kind) 1, LostForAddressee) ∷ (eqb (f .kind) 2, LostForAll) ∷ (eqb (f .kind) 3, Timer (f .station)) ∷ []) 64 b
     (omega arith, (omega arith, (omega arith, (b, tt))))
 
+same-place : (hears : ℕ → ℕ → Bool) (e : Event) → placeFor (asked hears e) ≡ placeFor e
+same-place hears Delivered = refl
+same-place hears LostForAddressee = refl
+same-place hears LostForAll = refl
+same-place hears (Timer station) = refl
+same-place hears (Queue station q) = refl
+
 module _ (n : ℕ) (s : List ℕ) (at : ℕ) where
   good-below : (e : Event) (next : ℕ) → readRecord n s at ≡ Good e next → placeFor e < 64
   good-below e next q = subst (λ (x : Event). placeFor x < 64) (found n s at e next q .event-is) (event-below s at)
 
-  place-below : (w : Way) (r : Read) → readRecord n s at ≡ r → planIn w r .place < 64
+  place-below : (w : Way) (hears : ℕ → ℕ → Bool) (r : Read) → readRecord n s at ≡ r → planIn w (askedRead hears r) .place < 64
   unfolding planIn
-  place-below w End q = omega arith
-  place-below w (Refused k) q = omega arith
-  place-below w (Good e next) q = good-below e next q
+  place-below w hears End q = omega arith
+  place-below w hears (Refused k) q = omega arith
+  place-below w hears (Good e next) q = omega (arith, same-place hears e, good-below e next q)
 
   -- ---- the records from an offset on
 
@@ -204,6 +213,26 @@ module _ (n : ℕ) (s : List ℕ) (at : ℕ) where
   pub records-good : (k : ℕ) (e : Event) (next : ℕ) → readRecord n s at ≡ Good e next → recordsFrom (suc k) n s at ≡ good e ∷ recordsFrom k n s next
   unfolding recordsFrom readFirst
   records-good k e next q = ap (λ (r : Read). readFirst r (λ (next : ℕ). recordsFrom k n s next)) q
+
+  -- and with what the ring file says of them
+  module _ (channels : List ℕ) where
+    pub heard-end : (k : ℕ) → readRecord n s at ≡ End → heardFrom n channels k s at ≡ []
+    unfolding askedAll
+    heard-end k q = ap (askedAll (heardIn n channels)) (records-end k q)
+
+    pub heard-refused : (k number : ℕ) → readRecord n s at ≡ Refused number → heardFrom n channels (suc k) s at ≡ bad number ∷ []
+    unfolding askedAll
+    heard-refused k number q = ap (askedAll (heardIn n channels)) (records-refused k number q)
+
+    pub heard-good : (k : ℕ) (e : Event) (next : ℕ) → readRecord n s at ≡ Good e next
+        → heardFrom n channels (suc k) s at ≡ good (asked (heardIn n channels) e) ∷ heardFrom n channels k s next
+    unfolding askedAll
+    heard-good k e next q = ap (askedAll (heardIn n channels)) (records-good k e next q)
+
+-- in the same ring
+pub same-heard : (n n₁ : ℕ) (channels channels₁ : List ℕ) → n ≡ n₁ → channels ≡ channels₁ → (k : ℕ) (s : List ℕ) (at : ℕ)
+    → heardFrom n channels k s at ≡ heardFrom n₁ channels₁ k s at
+same-heard n n₁ channels channels₁ en ec k s at = ap (λ (m : ℕ). heardFrom m channels k s at) en ∙ ap (λ (l : List ℕ). heardFrom n₁ l k s at) ec
 
 -- ---- one after the other
 
@@ -286,9 +315,9 @@ pub gone-none : (c : Course) → (gone c [] ≡ c) × (goneText c [] ≡ [])
 unfolding gone goneText
 gone-none c = (refl, refl)
 
-pub records-zero : (n : ℕ) (s : List ℕ) (at : ℕ) → recordsFrom 0 n s at ≡ []
-unfolding recordsFrom
-records-zero n s at = refl
+pub heard-zero : (n : ℕ) (channels s : List ℕ) (at : ℕ) → heardFrom n channels 0 s at ≡ []
+unfolding recordsFrom askedAll
+heard-zero n channels s at = refl
 
 pub offset-zero : (k n : ℕ) (s : List ℕ) (at : ℕ) → k ≡ 0 → offsetBehind k n s at ≡ at
 unfolding offsetBehind
@@ -303,6 +332,7 @@ offset-next k n s at e next q = ap (λ (r : Read). nextOffset at r (λ (x : ℕ)
 -- the way w has come from w₀, over the table ss, and what was printed stands in out
 pub record Under (w₀ : Way) (ss₀ : List Station) (s out₀ : List ℕ) (w : Way) (ss : List Station) (out : List ℕ) : Type 0 where
   pub members : w .n ≡ w₀ .n
+  pub heard : w .channels ≡ w₀ .channels
   pub same : w .most ≡ w₀ .most
   pub within : w .k ≤ w₀ .most
   pub few : length (w .wire) ≤ 64
@@ -316,8 +346,8 @@ pub record Under (w₀ : Way) (ss₀ : List Station) (s out₀ : List ℕ) (w : 
   pub short : length printed ≤ 1440 * w .k
   pub text : out ≡ laid out₀ (w₀ .used) printed
   pub end : w .used ≡ w₀ .used + length printed
-  pub left : gone (courseIn w ss) (recordsFrom (w₀ .most - w .k) (w₀ .n) s (w .at)) ≡ courseAfter w₀ ss₀ s
-  pub left-text : printed ++ goneText (courseIn w ss) (recordsFrom (w₀ .most - w .k) (w₀ .n) s (w .at)) ≡ textOf w₀ ss₀ s
+  pub left : gone (courseIn w ss) (heardFrom (w₀ .n) (w₀ .channels) (w₀ .most - w .k) s (w .at)) ≡ courseAfter w₀ ss₀ s
+  pub left-text : printed ++ goneText (courseIn w ss) (heardFrom (w₀ .n) (w₀ .channels) (w₀ .most - w .k) s (w .at)) ≡ textOf w₀ ss₀ s
   pub offset : w .at ≡ offsetBehind (w .done - w₀ .done) (w₀ .n) s (w₀ .at)
 
 offset-none : (k n : ℕ) (s : List ℕ) (at : ℕ) → k ≡ 0 → at ≡ offsetBehind k n s at
@@ -330,6 +360,7 @@ under-none w₀ ss₀ s out₀ size b =
     let all : w₀ .most - w₀ .k ≡ w₀ .most = omega arith in
     record {
       members = refl;
+      heard = refl;
       same = refl;
       within = omega arith;
       few = b .few;
@@ -343,8 +374,8 @@ under-none w₀ ss₀ s out₀ size b =
       short = omega arith;
       text = sym (laid-none out₀ (w₀ .used));
       end = omega arith;
-      left = ap (λ (k : ℕ). gone (courseIn w₀ ss₀) (recordsFrom k (w₀ .n) s (w₀ .at))) all;
-      left-text = ap (λ (k : ℕ). goneText (courseIn w₀ ss₀) (recordsFrom k (w₀ .n) s (w₀ .at))) all;
+      left = ap (λ (k : ℕ). gone (courseIn w₀ ss₀) (heardFrom (w₀ .n) (w₀ .channels) k s (w₀ .at))) all;
+      left-text = ap (λ (k : ℕ). goneText (courseIn w₀ ss₀) (heardFrom (w₀ .n) (w₀ .channels) k s (w₀ .at))) all;
       offset = offset-none (w₀ .done - w₀ .done) (w₀ .n) s (w₀ .at) (omega arith);
     }
 
@@ -365,15 +396,15 @@ module _ (w : Way) (ss : List Station) (s : List ℕ) (few : length (w .wire) �
   abbrev Follows : Read → Type 0
   Follows r =
       (j : ℕ) → let c : Course = courseIn (wayAfter w r ss) (tableIn (planIn w r) ss) in
-      (gone (courseIn w ss) (recordsFrom (suc j) (w .n) s (w .at)) ≡ gone c (recordsFrom j (w .n) s (wayAfter w r ss .at)))
-      × (goneText (courseIn w ss) (recordsFrom (suc j) (w .n) s (w .at)) ≡ textAfter w r ss ++ goneText c (recordsFrom j (w .n) s (wayAfter w r ss .at)))
+      (gone (courseIn w ss) (heardFrom (w .n) (w .channels) (suc j) s (w .at)) ≡ gone c (heardFrom (w .n) (w .channels) j s (wayAfter w r ss .at)))
+      × (goneText (courseIn w ss) (heardFrom (w .n) (w .channels) (suc j) s (w .at)) ≡ textAfter w r ss ++ goneText c (heardFrom (w .n) (w .channels) j s (wayAfter w r ss .at)))
 
   -- from what was read, and what is left behind it
-  follows : (r : Read) (j : ℕ) (rest : List Record) → ((k : ℕ) → r ≡ Refused k → (k ≡ 0 → ⊥)) → recordsFrom (suc j) (w .n) s (w .at) ≡ recordsIn r ++ rest
-      → Same (courseIn (wayAfter w r ss) (tableIn (planIn w r) ss)) rest (recordsFrom j (w .n) s (wayAfter w r ss .at))
+  follows : (r : Read) (j : ℕ) (rest : List Record) → ((k : ℕ) → r ≡ Refused k → (k ≡ 0 → ⊥)) → heardFrom (w .n) (w .channels) (suc j) s (w .at) ≡ recordsIn r ++ rest
+      → Same (courseIn (wayAfter w r ss) (tableIn (planIn w r) ss)) rest (heardFrom (w .n) (w .channels) j s (wayAfter w r ss .at))
       → let c : Course = courseIn (wayAfter w r ss) (tableIn (planIn w r) ss) in
-      (gone (courseIn w ss) (recordsFrom (suc j) (w .n) s (w .at)) ≡ gone c (recordsFrom j (w .n) s (wayAfter w r ss .at)))
-      × (goneText (courseIn w ss) (recordsFrom (suc j) (w .n) s (w .at)) ≡ textAfter w r ss ++ goneText c (recordsFrom j (w .n) s (wayAfter w r ss .at)))
+      (gone (courseIn w ss) (heardFrom (w .n) (w .channels) (suc j) s (w .at)) ≡ gone c (heardFrom (w .n) (w .channels) j s (wayAfter w r ss .at)))
+      × (goneText (courseIn w ss) (heardFrom (w .n) (w .channels) (suc j) s (w .at)) ≡ textAfter w r ss ++ goneText c (heardFrom (w .n) (w .channels) j s (wayAfter w r ss .at)))
   follows r j rest numbered e same =
       let c₀ : Course = courseIn w ss in
       let turned = record-turn w ss size going few r numbered in (
@@ -388,29 +419,29 @@ module _ (w : Way) (ss : List Station) (s : List ℕ) (few : length (w .wire) �
   follows-end : readRecord (w .n) s (w .at) ≡ End → Follows End
   unfolding afterRead
   follows-end q j =
-      follows End j [] (λ k z. absurd (not-end-refused k z)) (records-end (w .n) s (w .at) (suc j) q)
-      (same-records _ [] (recordsFrom j (w .n) s (w .at)) (sym (records-end (w .n) s (w .at) j q)))
+      follows End j [] (λ k z. absurd (not-end-refused k z)) (heard-end (w .n) s (w .at) (w .channels) (suc j) q)
+      (same-records _ [] (heardFrom (w .n) (w .channels) j s (w .at)) (sym (heard-end (w .n) s (w .at) (w .channels) j q)))
 
   follows-refused : (k : ℕ) → (k ≡ 0 → ⊥) → readRecord (w .n) s (w .at) ≡ Refused k → Follows (Refused k)
   unfolding afterRead
   follows-refused k o q j =
-      follows (Refused k) j [] (λ i z. subst (λ (m : ℕ). m ≡ 0 → ⊥) (same-number k i z) o) (records-refused (w .n) s (w .at) j k q)
-      (same-stopped _ [] (recordsFrom j (w .n) s (w .at)) o)
+      follows (Refused k) j [] (λ i z. subst (λ (m : ℕ). m ≡ 0 → ⊥) (same-number k i z) o) (heard-refused (w .n) s (w .at) (w .channels) j k q)
+      (same-stopped _ [] (heardFrom (w .n) (w .channels) j s (w .at)) o)
 
-  follows-good : (e : Event) (next : ℕ) → readRecord (w .n) s (w .at) ≡ Good e next → Follows (Good e next)
+  follows-good : (e : Event) (next : ℕ) → ((k : ℕ) → heardFrom (w .n) (w .channels) (suc k) s (w .at) ≡ good e ∷ heardFrom (w .n) (w .channels) k s next) → Follows (Good e next)
   unfolding afterRead
   follows-good e next q j =
-      follows (Good e next) j (recordsFrom j (w .n) s next) (λ k z. absurd (not-good-refused k e next (sym z))) (records-good (w .n) s (w .at) j e next q)
+      follows (Good e next) j (heardFrom (w .n) (w .channels) j s next) (λ k z. absurd (not-good-refused k e next (sym z))) (q j)
       (go (eqb (wayAfter w (Good e next) ss .number) 0) refl)
     where
-      go : (b : Bool) → eqb (wayAfter w (Good e next) ss .number) 0 ≡ b → Same (courseIn (wayAfter w (Good e next) ss) (tableIn (planIn w (Good e next)) ss)) (recordsFrom j (w .n) s next) (recordsFrom j (w .n) s (wayAfter w (Good e next) ss .at))
-      go true z = same-records _ _ _ (ap (recordsFrom j (w .n) s) (sym (good-goes w e next ss .0 (eqb-true _ _ z) .0)))
+      go : (b : Bool) → eqb (wayAfter w (Good e next) ss .number) 0 ≡ b → Same (courseIn (wayAfter w (Good e next) ss) (tableIn (planIn w (Good e next)) ss)) (heardFrom (w .n) (w .channels) j s next) (heardFrom (w .n) (w .channels) j s (wayAfter w (Good e next) ss .at))
+      go true z = same-records _ _ _ (ap (heardFrom (w .n) (w .channels) j s) (sym (good-goes w e next ss .0 (eqb-true _ _ z) .0)))
       go false z = same-stopped _ _ _ (eqb-false _ _ z)
 
-  pub turn-follows : (r : Read) → readRecord (w .n) s (w .at) ≡ r → Follows r
+  pub turn-follows : (r : Read) → readRecord (w .n) s (w .at) ≡ r → Follows (askedRead (heardIn (w .n) (w .channels)) r)
   turn-follows End q = follows-end q
   turn-follows (Refused k) q = follows-refused k (refused-is (w .n) s (w .at) k q .2) q
-  turn-follows (Good e next) q = follows-good e next q
+  turn-follows (Good e next) q = follows-good (asked (heardIn (w .n) (w .channels)) e) next (λ k. heard-good (w .n) s (w .at) (w .channels) k e next q)
 
 -- ---- the turns
 
@@ -421,11 +452,11 @@ module _ (w₀ : Way) (ss₀ : List Station) (s out₀ : List ℕ) (w : Way) (ss
   under-room : w .k < w .most → w .used + 1440 ≤ length out
   under-room less = omega (arith, less, u .same, u .end, u .short, u .roomy, u .long)
 
-  pub under-ready : goesOn w ≡ true → (w .done < 2 ^ 63) × ((w .k < w .most) × ((w .used + 1440 ≤ length out) × (planIn w (readRecord (w .n) s (w .at)) .place < 64)))
+  pub under-ready : goesOn w ≡ true → (w .done < 2 ^ 63) × ((w .k < w .most) × ((w .used + 1440 ≤ length out) × (planIn w (askedRead (heardIn (w .n) (w .channels)) (readRecord (w .n) s (w .at))) .place < 64)))
   under-ready on =
       let less : w .k < w .most = under-more on .0 in (
         omega (arith, less, u .same, u .counted, u .bound),
-        (less, (under-room less, place-below (w .n) s (w .at) w (readRecord (w .n) s (w .at)) refl)),
+        (less, (under-room less, place-below (w .n) s (w .at) w (heardIn (w .n) (w .channels)) (readRecord (w .n) s (w .at)) refl)),
       )
 
   -- where the next record begins, and how many are done
@@ -448,28 +479,32 @@ module _ (w₀ : Way) (ss₀ : List Station) (s out₀ : List ℕ) (w : Way) (ss
           let p : (w₁ .at ≡ w .at) × (w₁ .done ≡ w .done) = g .1 (eqb-false _ _ z) in
           (p .0 ∙ u .offset ∙ ap (λ (d : ℕ). offsetBehind (d - w₀ .done) (w₀ .n) s (w₀ .at)) (sym (p .1)), (omega (arith, p .1), omega (arith, p .1)))
 
-  behind : (r : Read) → readRecord (w .n) s (w .at) ≡ r → Behind (wayAfter w r ss)
+  behind : (r : Read) → readRecord (w .n) s (w .at) ≡ r → Behind (wayAfter w (askedRead (heardIn (w .n) (w .channels)) r) ss)
   unfolding afterRead
   behind End q = (u .offset, (omega arith, omega arith))
   behind (Refused k) q = (u .offset, (omega arith, omega arith))
-  behind (Good e next) q = behind-good e next q (wayAfter w (Good e next) ss) (good-goes w e next ss)
+  behind (Good e next) q = behind-good e next q (wayAfter w (Good (asked (heardIn (w .n) (w .channels)) e) next) ss) (good-goes w (asked (heardIn (w .n) (w .channels)) e) next ss)
 
-  module _ (on : goesOn w ≡ true) (r : Read) (q : readRecord (w .n) s (w .at) ≡ r) where
+  module _ (on : goesOn w ≡ true) (d : Read) (q : readRecord (w .n) s (w .at) ≡ d) where
+    abbrev r : Read
+    r = askedRead (heardIn (w .n) (w .channels)) d
+
     under-step : length (tableIn (planIn w r) ss) ≡ 64 → Under w₀ ss₀ s out₀ (wayAfter w r ss) (tableIn (planIn w r) ss) (laid out (w .used) (textAfter w r ss))
     under-step size =
         let less : w .k < w .most = under-more on .0 in
         let lines : List ℕ = textAfter w r ss in
         let w₁ : Way = wayAfter w r ss in
         let m : Moved w lines w₁ = moved-read w (u .few) r _ _ _ in
-        let b : Behind w₁ = behind r q in
+        let b : Behind w₁ = behind d q in
         let j : ℕ = w₀ .most - w₁ .k in
-        let f = turn-follows w ss s (u .few) (u .table) (under-more on .1) r q j in
+        let f = turn-follows w ss s (u .few) (u .table) (under-more on .1) d q j in
         let short : length lines ≤ 1440 = read-short w r _ _ _ (plan-most w r) in
         let one : suc j ≡ w₀ .most - w .k = omega (arith, m .next, less, u .same) in
         let both : length (u .printed ++ lines) ≡ length (u .printed) + length lines = length-append (u .printed) lines in
         let put = laid-both out₀ out (laid out (w .used) lines) (u .printed) lines (w₀ .used) (w .used) (w₁ .used) (omega (arith, less, u .same, u .short, u .roomy, short)) (u .end) (m .end) (u .text) refl in
         record {
           members = m .members ∙ u .members;
+          heard = m .heard ∙ u .heard;
           same = m .same ∙ u .same;
           within = omega (arith, m .next, less, u .same);
           few = m .few;
@@ -484,17 +519,17 @@ module _ (w₀ : Way) (ss₀ : List Station) (s out₀ : List ℕ) (w : Way) (ss
           text = put .0;
           end = put .1;
           left =
-              ap (λ (n : ℕ). gone (courseIn w₁ (tableIn (planIn w r) ss)) (recordsFrom j n s (w₁ .at))) (sym (u .members))
+              ap (gone (courseIn w₁ (tableIn (planIn w r) ss))) (same-heard (w₀ .n) (w .n) (w₀ .channels) (w .channels) (sym (u .members)) (sym (u .heard)) j s (w₁ .at))
               ∙ sym (f .0)
-              ∙ ap (λ (k : ℕ). gone (courseIn w ss) (recordsFrom k (w .n) s (w .at))) one
-              ∙ ap (λ (n : ℕ). gone (courseIn w ss) (recordsFrom (w₀ .most - w .k) n s (w .at))) (u .members)
+              ∙ ap (λ (k : ℕ). gone (courseIn w ss) (heardFrom (w .n) (w .channels) k s (w .at))) one
+              ∙ ap (gone (courseIn w ss)) (same-heard (w .n) (w₀ .n) (w .channels) (w₀ .channels) (u .members) (u .heard) (w₀ .most - w .k) s (w .at))
               ∙ u .left;
           left-text =
-              append-assoc (u .printed) lines (goneText (courseIn w₁ (tableIn (planIn w r) ss)) (recordsFrom j (w₀ .n) s (w₁ .at)))
-              ∙ ap (λ (n : ℕ). u .printed ++ (lines ++ goneText (courseIn w₁ (tableIn (planIn w r) ss)) (recordsFrom j n s (w₁ .at)))) (sym (u .members))
+              append-assoc (u .printed) lines (goneText (courseIn w₁ (tableIn (planIn w r) ss)) (heardFrom (w₀ .n) (w₀ .channels) j s (w₁ .at)))
+              ∙ ap (λ (l : List Record). u .printed ++ (lines ++ goneText (courseIn w₁ (tableIn (planIn w r) ss)) l)) (same-heard (w₀ .n) (w .n) (w₀ .channels) (w .channels) (sym (u .members)) (sym (u .heard)) j s (w₁ .at))
               ∙ ap (λ (t : List ℕ). u .printed ++ t) (sym (f .1))
-              ∙ ap (λ (k : ℕ). u .printed ++ goneText (courseIn w ss) (recordsFrom k (w .n) s (w .at))) one
-              ∙ ap (λ (n : ℕ). u .printed ++ goneText (courseIn w ss) (recordsFrom (w₀ .most - w .k) n s (w .at))) (u .members)
+              ∙ ap (λ (k : ℕ). u .printed ++ goneText (courseIn w ss) (heardFrom (w .n) (w .channels) k s (w .at))) one
+              ∙ ap (λ (l : List Record). u .printed ++ goneText (courseIn w ss) l) (same-heard (w .n) (w₀ .n) (w .channels) (w₀ .channels) (u .members) (u .heard) (w₀ .most - w .k) s (w .at))
               ∙ u .left-text;
           offset = b .0;
         }
@@ -514,7 +549,7 @@ module _ (w₀ : Way) (ss₀ : List Station) (s out₀ : List ℕ) (w : Way) (ss
         omega (arith, less, u .same, k)
 
   -- no next turn: all are done, or the run has stopped
-  ended : gone (courseIn w ss) (recordsFrom (w₀ .most - w .k) (w₀ .n) s (w .at)) ≡ courseIn w ss → goneText (courseIn w ss) (recordsFrom (w₀ .most - w .k) (w₀ .n) s (w .at)) ≡ [] → AllDone w₀ ss₀ s out₀ w ss out
+  ended : gone (courseIn w ss) (heardFrom (w₀ .n) (w₀ .channels) (w₀ .most - w .k) s (w .at)) ≡ courseIn w ss → goneText (courseIn w ss) (heardFrom (w₀ .n) (w₀ .channels) (w₀ .most - w .k) s (w .at)) ≡ [] → AllDone w₀ ss₀ s out₀ w ss out
   ended stays silent =
       let whole : u .printed ≡ textOf w₀ ss₀ s = sym (append-nil (u .printed)) ∙ ap (λ (t : List ℕ). u .printed ++ t) (sym silent) ∙ u .left-text in
       record {
@@ -525,9 +560,9 @@ module _ (w₀ : Way) (ss₀ : List Station) (s out₀ : List ℕ) (w : Way) (ss
       }
 
   none-left : w₀ .most - w .k ≡ 0 → AllDone w₀ ss₀ s out₀ w ss out
-  unfolding recordsFrom gone goneText
+  unfolding recordsFrom askedAll gone goneText
   none-left e =
-      ended (ap (λ (k : ℕ). gone (courseIn w ss) (recordsFrom k (w₀ .n) s (w .at))) e) (ap (λ (k : ℕ). goneText (courseIn w ss) (recordsFrom k (w₀ .n) s (w .at))) e)
+      ended (ap (λ (k : ℕ). gone (courseIn w ss) (heardFrom (w₀ .n) (w₀ .channels) k s (w .at))) e) (ap (λ (k : ℕ). goneText (courseIn w ss) (heardFrom (w₀ .n) (w₀ .channels) k s (w .at))) e)
 
   pub under-all : goesOn w ≡ false → AllDone w₀ ss₀ s out₀ w ss out
   under-all off = go (ltb (w .k) (w .most)) refl

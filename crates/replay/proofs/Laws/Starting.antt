@@ -97,10 +97,10 @@ turns-fit room done = go (ltb (room / longest) (2 ^ 63 - done)) refl
 
 -- what is kept of a course for the call
 abbrev pub goingFrom : Replay → ℕ → ℕ → Going
-goingFrom r at most = record { n = r .n; wire = r .wire; at = r .at; done = r .done; number = r .number; used = at; most = most; k = 0; read = End }
+goingFrom r at most = record { n = r .n; channels = r .channels; wire = r .wire; at = r .at; done = r .done; number = r .number; used = at; most = most; k = 0; read = End }
 
-abbrev pub ranWith : Going → List Station → Ran
-ranWith g ss = record { replay = record { n = g .n; stations = ss; wire = g .wire; at = g .at; done = g .done; number = g .number }; used = g .used }
+abbrev pub ranWith : Replay → Going → List Station → Ran
+ranWith r g ss = record { replay = record { n = g .n; channels = r .channels; stations = ss; wire = g .wire; at = g .at; done = g .done; number = g .number }; used = g .used }
 
 module _ (r : Replay) (s out₀ : List ℕ) (at most : ℕ) (e : most ≡ turnsIn (length out₀ - at) (r .done)) where
   pub call-begins : length (r .wire .items) ≡ 64 → Begins (wayOf (goingFrom r at most)) (length out₀)
@@ -108,10 +108,10 @@ module _ (r : Replay) (s out₀ : List ℕ) (at most : ℕ) (e : most ≡ turnsI
       let f : (longest * turnsIn (length out₀ - at) (r .done) ≤ length out₀ - at) × (turnsIn (length out₀ - at) (r .done) ≤ 2 ^ 63 - r .done) = turns-fit (length out₀ - at) (r .done) in
       record { none = refl; counted = omega (arith, e, f .1); roomy = omega (arith, e, f .0); few = flying-most (r .wire) size .0 }
 
-  pub ran-from : (g : Going) (ss : List Station) (out : List ℕ) → AllDone (wayOf (goingFrom r at most)) (r .stations) s out₀ (wayOf g) ss out → RanFrom r s out₀ at (ranWith g ss) out
+  pub ran-from : (g : Going) (ss : List Station) (out : List ℕ) → AllDone (wayOf (goingFrom r at most)) (r .stations) s out₀ (wayOf g) ss out → RanFrom r s out₀ at (ranWith r g ss) out
   ran-from g ss out d =
       let f : AllDone (wayOf (goingFrom r at (turnsIn (length out₀ - at) (r .done)))) (r .stations) s out₀ (wayOf g) ss out = subst (λ (k : ℕ). AllDone (wayOf (goingFrom r at k)) (r .stations) s out₀ (wayOf g) ss out) e d in
-      record { course = f .course; offset = f .offset; end = f .end; text = f .text }
+      record { course = f .course; same-channels = refl; offset = f .offset; end = f .end; text = f .text }
 
 -- ---- a station of the table
 

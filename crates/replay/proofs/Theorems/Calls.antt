@@ -15,12 +15,13 @@ use Rattle.capture.specs.declared.record.Event.{Event}
 use Rattle.capture.specs.declared.record.Read.{Read}
 use Rattle.capture.specs.declared.record.Read.the-variants.{End, Refused, Good}
 use Rattle.capture.proofs.Laws.Reading.{refused-is}
+use Rattle.day.specs.Listening.{heardIn, asked}
 use Rattle.replay.specs.Replays.{courseOf, isEnd, isOver, turnsIn, recordsNow, RanFrom}
 use Rattle.replay.specs.Running.{nextOffset, offsetBehind}
-use Rattle.replay.specs.Runs.{Record, good, bad, recordsFrom, Course, stopped, wentOn, recordNumber, effect, turn, turnText, gone, goneText}
+use Rattle.replay.specs.Runs.{Record, good, bad, heardFrom, Course, stopped, wentOn, recordNumber, effect, turn, turnText, gone, goneText}
 use Rattle.replay.specs.declared.run.Replay.{Replay}
 use Rattle.replay.specs.declared.run.Ran.{Ran}
-use Rattle.replay.proofs.Laws.Running.{records-end, records-refused, records-good, gone-stays, gone-silent, gone-one, text-one, gone-none, records-zero, offset-zero, offset-next}
+use Rattle.replay.proofs.Laws.Running.{heard-end, heard-refused, heard-good, gone-stays, gone-silent, gone-one, text-one, gone-none, heard-zero, offset-zero, offset-next}
 
 -- ---- one record
 
@@ -65,28 +66,32 @@ turn-stops c k going o =
 
 -- ---- some records, and then more
 
-module _ (n : ℕ) (s : List ℕ) (j : ℕ) where
+module _ (n : ℕ) (channels s : List ℕ) (j : ℕ) where
+  -- an event with what the ring file says of it
+  abbrev told : Event → Event
+  told = asked (heardIn n channels)
+
   -- the course c₁ after some records whose lines are t, and the offset behind them
   abbrev Joins : Course → List Record → Course → List ℕ → ℕ → Type 0
-  Joins c all c₁ t at₁ = (gone c all ≡ gone c₁ (recordsFrom j n s at₁)) × (goneText c all ≡ t ++ goneText c₁ (recordsFrom j n s at₁))
+  Joins c all c₁ t at₁ = (gone c all ≡ gone c₁ (heardFrom n channels j s at₁)) × (goneText c all ≡ t ++ goneText c₁ (heardFrom n channels j s at₁))
 
   abbrev Joined : Course → ℕ → ℕ → Type 0
   Joined c k at =
-      Joins c (recordsFrom (k + j) n s at) (gone c (recordsFrom k n s at)) (goneText c (recordsFrom k n s at)) (offsetBehind (gone c (recordsFrom k n s at) .done - c .done) n s at)
+      Joins c (heardFrom n channels (k + j) s at) (gone c (heardFrom n channels k s at)) (goneText c (heardFrom n channels k s at)) (offsetBehind (gone c (heardFrom n channels k s at) .done - c .done) n s at)
 
   -- a stopped course
   joins-stopped : (c : Course) (all rs : List Record) (at₁ : ℕ) → (c .number ≡ 0 → ⊥) → Joins c all (gone c rs) (goneText c rs) at₁
   joins-stopped c all rs at₁ o =
       let same : gone c rs ≡ c = gone-stays c o rs in
-      let rest : List Record = recordsFrom j n s at₁ in (
+      let rest : List Record = heardFrom n channels j s at₁ in (
         gone-stays c o all ∙ sym (gone-stays c o rest) ∙ ap (λ (x : Course). gone x rest) (sym same),
         gone-silent c o all ∙ sym (ap (λ (t : List ℕ). t ++ goneText (gone c rs) rest) (gone-silent c o rs) ∙ ap (λ (x : Course). goneText x rest) same ∙ gone-silent c o rest),
       )
 
   -- no records at all
-  joins-none : (c : Course) (all rs : List Record) (at₁ : ℕ) → rs ≡ [] → all ≡ recordsFrom j n s at₁ → Joins c all (gone c rs) (goneText c rs) at₁
+  joins-none : (c : Course) (all rs : List Record) (at₁ : ℕ) → rs ≡ [] → all ≡ heardFrom n channels j s at₁ → Joins c all (gone c rs) (goneText c rs) at₁
   joins-none c all rs at₁ er ea =
-      let rest : List Record = recordsFrom j n s at₁ in (
+      let rest : List Record = heardFrom n channels j s at₁ in (
         ap (gone c) ea ∙ ap (λ (x : Course). gone x rest) (sym (ap (gone c) er ∙ gone-none c .0)),
         ap (goneText c) ea ∙ ap (λ (x : Course). goneText x rest) (sym (ap (gone c) er ∙ gone-none c .0)) ∙ ap (λ (t : List ℕ). t ++ goneText (gone c rs) rest) (sym (ap (goneText c) er ∙ gone-none c .1)),
       )
@@ -94,7 +99,7 @@ module _ (n : ℕ) (s : List ℕ) (j : ℕ) where
   -- one record first
   joins-first : (c : Course) (r : Record) (all rs : List Record) (at₁ : ℕ) → Joins (turn c r) all (gone (turn c r) rs) (goneText (turn c r) rs) at₁ → Joins c (r ∷ all) (gone c (r ∷ rs)) (goneText c (r ∷ rs)) at₁
   joins-first c r all rs at₁ h =
-      let rest : List Record = recordsFrom j n s at₁ in (
+      let rest : List Record = heardFrom n channels j s at₁ in (
         gone-one c r all ∙ h .0 ∙ ap (λ (x : Course). gone x rest) (sym (gone-one c r rs)),
         text-one c r all
             ∙ ap (λ (t : List ℕ). turnText c r ++ t) (h .1)
@@ -113,70 +118,70 @@ module _ (n : ℕ) (s : List ℕ) (j : ℕ) where
   -- the end: nothing is left
   joined-end : (k : ℕ) (c : Course) (at : ℕ) → readRecord n s at ≡ End → Joined c (suc k) at
   joined-end k c at q =
-      let rs : List Record = recordsFrom (suc k) n s at in
-      let er : rs ≡ [] = records-end n s at (suc k) q in
+      let rs : List Record = heardFrom n channels (suc k) s at in
+      let er : rs ≡ [] = heard-end n s at channels (suc k) q in
       let here : offsetBehind (gone c rs .done - c .done) n s at ≡ at = offset-zero _ n s at (omega (arith, ap (λ (x : Course). x .done) (ap (gone c) er ∙ gone-none c .0))) in
-      joins-none c (recordsFrom (suc k + j) n s at) rs _ er (records-end n s at (suc k + j) q ∙ sym (records-end n s at j q) ∙ ap (recordsFrom j n s) (sym here))
+      joins-none c (heardFrom n channels (suc k + j) s at) rs _ er (heard-end n s at channels (suc k + j) q ∙ sym (heard-end n s at channels j q) ∙ ap (heardFrom n channels j s) (sym here))
 
   joined-refused : (k : ℕ) (c : Course) (at x : ℕ) → c .number ≡ 0 → (x ≡ 0 → ⊥) → readRecord n s at ≡ Refused x → Joined c (suc k) at
   joined-refused k c at x going o q =
-      joins-as c _ (bad x ∷ []) _ (bad x ∷ []) _ _ (ap (λ (i : ℕ). recordsFrom i n s at) (one-more k) ∙ records-refused n s at (k + j) x q) (records-refused n s at k x q) refl
+      joins-as c _ (bad x ∷ []) _ (bad x ∷ []) _ _ (ap (λ (i : ℕ). heardFrom n channels i s at) (one-more k) ∙ heard-refused n s at channels (k + j) x q) (heard-refused n s at channels k x q) refl
       (joins-first c (bad x) [] [] _ (joins-stopped (turn c (bad x)) [] [] _ (λ z. o (sym (turn-stops c x going o) ∙ z))))
 
-  joined-good : (k : ℕ) (c : Course) (at : ℕ) (e : Event) (next : ℕ) → c .number ≡ 0 → readRecord n s at ≡ Good e next → Joined (turn c (good e)) k next → Joined c (suc k) at
-  joined-good k c at e next going q more = go (eqb (turn c (good e) .number) 0) refl
+  joined-good : (k : ℕ) (c : Course) (at : ℕ) (e : Event) (next : ℕ) → c .number ≡ 0 → readRecord n s at ≡ Good e next → Joined (turn c (good (told e))) k next → Joined c (suc k) at
+  joined-good k c at e next going q more = go (eqb (turn c (good (told e)) .number) 0) refl
     where
-      all : recordsFrom (suc k + j) n s at ≡ good e ∷ recordsFrom (k + j) n s next
-      all = ap (λ (i : ℕ). recordsFrom i n s at) (one-more k) ∙ records-good n s at (k + j) e next q
+      all : heardFrom n channels (suc k + j) s at ≡ good (told e) ∷ heardFrom n channels (k + j) s next
+      all = ap (λ (i : ℕ). heardFrom n channels i s at) (one-more k) ∙ heard-good n s at channels (k + j) e next q
 
-      go : (b : Bool) → eqb (turn c (good e) .number) 0 ≡ b → Joined c (suc k) at
+      go : (b : Bool) → eqb (turn c (good (told e)) .number) 0 ≡ b → Joined c (suc k) at
       go true z =
-          let d : Course = turn c (good e) in
-          let rs : List Record = recordsFrom k n s next in
-          let one : d .done ≡ suc (c .done) = turn-counts c e going (eqb-true _ _ z) in
-          let same : gone c (recordsFrom (suc k) n s at) ≡ gone d rs = ap (gone c) (records-good n s at k e next q) ∙ gone-one c (good e) rs in
-          let count : gone c (recordsFrom (suc k) n s at) .done - c .done ≡ suc (gone d rs .done - d .done) = omega (arith, ap (λ (x : Course). x .done) same, one, gone-grows d rs) in
-          joins-as c _ (good e ∷ recordsFrom (k + j) n s next) _ (good e ∷ rs) _ (offsetBehind (gone d rs .done - d .done) n s next) all (records-good n s at k e next q)
+          let d : Course = turn c (good (told e)) in
+          let rs : List Record = heardFrom n channels k s next in
+          let one : d .done ≡ suc (c .done) = turn-counts c (told e) going (eqb-true _ _ z) in
+          let same : gone c (heardFrom n channels (suc k) s at) ≡ gone d rs = ap (gone c) (heard-good n s at channels k e next q) ∙ gone-one c (good (told e)) rs in
+          let count : gone c (heardFrom n channels (suc k) s at) .done - c .done ≡ suc (gone d rs .done - d .done) = omega (arith, ap (λ (x : Course). x .done) same, one, gone-grows d rs) in
+          joins-as c _ (good (told e) ∷ heardFrom n channels (k + j) s next) _ (good (told e) ∷ rs) _ (offsetBehind (gone d rs .done - d .done) n s next) all (heard-good n s at channels k e next q)
           (ap (λ (i : ℕ). offsetBehind i n s at) count ∙ offset-next (gone d rs .done - d .done) n s at e next q)
-          (joins-first c (good e) (recordsFrom (k + j) n s next) rs (offsetBehind (gone d rs .done - d .done) n s next) more)
+          (joins-first c (good (told e)) (heardFrom n channels (k + j) s next) rs (offsetBehind (gone d rs .done - d .done) n s next) more)
       go false z =
-          joins-as c _ (good e ∷ recordsFrom (k + j) n s next) _ (good e ∷ recordsFrom k n s next) _ _ all (records-good n s at k e next q) refl
-          (joins-first c (good e) (recordsFrom (k + j) n s next) (recordsFrom k n s next) _ (joins-stopped (turn c (good e)) (recordsFrom (k + j) n s next) (recordsFrom k n s next) _ (eqb-false _ _ z)))
+          joins-as c _ (good (told e) ∷ heardFrom n channels (k + j) s next) _ (good (told e) ∷ heardFrom n channels k s next) _ _ all (heard-good n s at channels k e next q) refl
+          (joins-first c (good (told e)) (heardFrom n channels (k + j) s next) (heardFrom n channels k s next) _ (joins-stopped (turn c (good (told e))) (heardFrom n channels (k + j) s next) (heardFrom n channels k s next) _ (eqb-false _ _ z)))
 
   joined-read : (k : ℕ) (c : Course) (at : ℕ) → c .number ≡ 0 → ((d : Course) (x : ℕ) → Joined d k x) → (r : Read) → readRecord n s at ≡ r → Joined c (suc k) at
   joined-read k c at going more End q = joined-end k c at q
   joined-read k c at going more (Refused x) q = joined-refused k c at x going (refused-is n s at x q .2) q
-  joined-read k c at going more (Good e next) q = joined-good k c at e next going q (more (turn c (good e)) next)
+  joined-read k c at going more (Good e next) q = joined-good k c at e next going q (more (turn c (good (told e))) next)
 
   joined : (k : ℕ) (c : Course) (at : ℕ) → Joined c k at
   joined zero c at =
-      let rs : List Record = recordsFrom 0 n s at in
-      let none : rs ≡ [] = records-zero n s at in
+      let rs : List Record = heardFrom n channels 0 s at in
+      let none : rs ≡ [] = heard-zero n channels s at in
       let here : offsetBehind (gone c rs .done - c .done) n s at ≡ at = offset-zero _ n s at (omega (arith, ap (λ (x : Course). x .done) (ap (gone c) none ∙ gone-none c .0))) in
-      joins-none c (recordsFrom (0 + j) n s at) rs _ none (ap (λ (i : ℕ). recordsFrom i n s at) (zero-add j) ∙ ap (recordsFrom j n s) (sym here))
+      joins-none c (heardFrom n channels (0 + j) s at) rs _ none (ap (λ (i : ℕ). heardFrom n channels i s at) (zero-add j) ∙ ap (heardFrom n channels j s) (sym here))
   joined (suc k) c at = go (eqb (c .number) 0) refl (λ (d : Course) (x : ℕ). joined k d x)
     where
       go : (b : Bool) → eqb (c .number) 0 ≡ b → ((d : Course) (x : ℕ) → Joined d k x) → Joined c (suc k) at
       go true t more = joined-read k c at (eqb-true _ _ t) more (readRecord n s at) refl
-      go false t more = joins-stopped c (recordsFrom (suc k + j) n s at) (recordsFrom (suc k) n s at) _ (eqb-false _ _ t)
+      go false t more = joins-stopped c (heardFrom n channels (suc k + j) s at) (heardFrom n channels (suc k) s at) _ (eqb-false _ _ t)
 
 -- ---- calls
 
 -- a call, and then j records more: as many records in one
 pub call-joins : (r : Replay) (s out₀ : List ℕ) (at : ℕ) (a : Ran) (out : List ℕ) → RanFrom r s out₀ at a out → (j : ℕ)
-    → (gone (courseOf r) (recordsFrom (turnsIn (length out₀ - at) (r .done) + j) (r .n) s (r .at)) ≡ gone (courseOf (a .replay)) (recordsFrom j (r .n) s (a .replay .at)))
-    × (goneText (courseOf r) (recordsFrom (turnsIn (length out₀ - at) (r .done) + j) (r .n) s (r .at)) ≡ goneText (courseOf r) (recordsNow r s (length out₀ - at)) ++ goneText (courseOf (a .replay)) (recordsFrom j (r .n) s (a .replay .at)))
+    → (gone (courseOf r) (heardFrom (r .n) (r .channels) (turnsIn (length out₀ - at) (r .done) + j) s (r .at)) ≡ gone (courseOf (a .replay)) (heardFrom (r .n) (r .channels) j s (a .replay .at)))
+    × (goneText (courseOf r) (heardFrom (r .n) (r .channels) (turnsIn (length out₀ - at) (r .done) + j) s (r .at)) ≡ goneText (courseOf r) (recordsNow r s (length out₀ - at)) ++ goneText (courseOf (a .replay)) (heardFrom (r .n) (r .channels) j s (a .replay .at)))
 call-joins r s out₀ at a out h j =
     let k : ℕ = turnsIn (length out₀ - at) (r .done) in
     let c₁ : Course = gone (courseOf r) (recordsNow r s (length out₀ - at)) in
-    let all = joined (r .n) s j k (courseOf r) (r .at) in
+    let all = joined (r .n) (r .channels) s j k (courseOf r) (r .at) in
     let here : a .replay .at ≡ offsetBehind (c₁ .done - r .done) (r .n) s (r .at) = h .offset ∙ ap (λ (c : Course). offsetBehind (c .done - r .done) (r .n) s (r .at)) (h .course) in (
       all .0
-          ∙ ap (λ (i : ℕ). gone c₁ (recordsFrom j (r .n) s i)) (sym here)
-          ∙ ap (λ (c : Course). gone c (recordsFrom j (r .n) s (a .replay .at))) (sym (h .course)),
+          ∙ ap (λ (i : ℕ). gone c₁ (heardFrom (r .n) (r .channels) j s i)) (sym here)
+          ∙ ap (λ (c : Course). gone c (heardFrom (r .n) (r .channels) j s (a .replay .at))) (sym (h .course)),
       all .1
-          ∙ ap (λ (i : ℕ). goneText (courseOf r) (recordsNow r s (length out₀ - at)) ++ goneText c₁ (recordsFrom j (r .n) s i)) (sym here)
-          ∙ ap (λ (c : Course). goneText (courseOf r) (recordsNow r s (length out₀ - at)) ++ goneText c (recordsFrom j (r .n) s (a .replay .at))) (sym (h .course)),
+          ∙ ap (λ (i : ℕ). goneText (courseOf r) (recordsNow r s (length out₀ - at)) ++ goneText c₁ (heardFrom (r .n) (r .channels) j s i)) (sym here)
+          ∙ ap (λ (c : Course). goneText (courseOf r) (recordsNow r s (length out₀ - at)) ++ goneText c (heardFrom (r .n) (r .channels) j s (a .replay .at))) (sym (h .course)),
     )
 
 end-read : (d : Read) → isEnd d ≡ true → d ≡ End
@@ -185,11 +190,11 @@ end-read (Refused k) e = absurd (false≢true e)
 end-read (Good e′ next) e = absurd (false≢true e)
 
 -- where it is over, however many records there might be: nothing changes, and nothing is printed
-pub over-all : (r : Replay) (s : List ℕ) → isOver r s ≡ true → (k : ℕ) → (gone (courseOf r) (recordsFrom k (r .n) s (r .at)) ≡ courseOf r) × (goneText (courseOf r) (recordsFrom k (r .n) s (r .at)) ≡ [])
+pub over-all : (r : Replay) (s : List ℕ) → isOver r s ≡ true → (k : ℕ) → (gone (courseOf r) (heardFrom (r .n) (r .channels) k s (r .at)) ≡ courseOf r) × (goneText (courseOf r) (heardFrom (r .n) (r .channels) k s (r .at)) ≡ [])
 over-all r s over k = go (eqb (r .number) 0) refl
   where
-    go : (b : Bool) → eqb (r .number) 0 ≡ b → (gone (courseOf r) (recordsFrom k (r .n) s (r .at)) ≡ courseOf r) × (goneText (courseOf r) (recordsFrom k (r .n) s (r .at)) ≡ [])
+    go : (b : Bool) → eqb (r .number) 0 ≡ b → (gone (courseOf r) (heardFrom (r .n) (r .channels) k s (r .at)) ≡ courseOf r) × (goneText (courseOf r) (heardFrom (r .n) (r .channels) k s (r .at)) ≡ [])
     go true t =
-        let e : recordsFrom k (r .n) s (r .at) ≡ [] = records-end (r .n) s (r .at) k (end-read _ (sym (pick-true (isEnd (readRecord (r .n) s (r .at))) true t) ∙ over)) in
+        let e : heardFrom (r .n) (r .channels) k s (r .at) ≡ [] = heard-end (r .n) s (r .at) (r .channels) k (end-read _ (sym (pick-true (isEnd (readRecord (r .n) s (r .at))) true t) ∙ over)) in
         (ap (gone (courseOf r)) e ∙ gone-none (courseOf r) .0, ap (goneText (courseOf r)) e ∙ gone-none (courseOf r) .1)
     go false t = (gone-stays (courseOf r) (eqb-false _ _ t) _, gone-silent (courseOf r) (eqb-false _ _ t) _)

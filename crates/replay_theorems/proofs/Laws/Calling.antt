@@ -10,13 +10,13 @@ use lib.ListN.{length, take, drop}
 use lib.Seq.{take-at, drop-at, length-take-le}
 use borrow.Author.Tests.{leb-true, leb-false}
 use Rattle.codec.specs.Octets.{laid}
-use Rattle.replay.specs.Runs.{Record, recordsFrom, Course, gone, goneText}
+use Rattle.replay.specs.Runs.{Record, heardFrom, Course, gone, goneText}
 use Rattle.replay.specs.Replays.{courseOf, turnsIn, recordsNow, RanFrom}
 use Rattle.replay.specs.declared.run.Replay.{Replay}
 use Rattle.replay.specs.declared.run.Ran.{Ran}
 use Rattle.replay.proofs.Laws.Starting.{turns-fit}
 use Rattle.replay.proofs.Theorems.Calls.{call-joins}
-use Rattle.replay.proofs.Laws.Running.{gone-none, records-zero}
+use Rattle.replay.proofs.Laws.Running.{gone-none, heard-zero, same-heard}
 use Rattle.replay_theorems.specs.WholeDay.{WholeDay}
 use Rattle.replay_theorems.specs.Calls.{RunCall, CallsFrom, leftBy, written, writtenBy}
 use Rattle.replay_theorems.proofs.Laws.Turning.{run-keeps}
@@ -48,8 +48,8 @@ call-writes r s out₀ at a out h = go (leb at (length out₀)) refl
     go false t =
         let past : length out₀ < at = leb-false _ _ t in
         let none : x ≡ [] =
-        ap (λ (k : ℕ). goneText (courseOf r) (recordsFrom k (r .n) s (r .at))) (no-turns (length out₀ - at) (r .done) (omega (arith, past)))
-        ∙ ap (goneText (courseOf r)) (records-zero (r .n) s (r .at))
+        ap (λ (k : ℕ). goneText (courseOf r) (heardFrom (r .n) (r .channels) k s (r .at))) (no-turns (length out₀ - at) (r .done) (omega (arith, past)))
+        ∙ ap (goneText (courseOf r)) (heard-zero (r .n) (r .channels) s (r .at))
         ∙ gone-none (courseOf r) .1 in
         ap (λ (k : ℕ). take k (drop at out)) (long ∙ ap length none) ∙ sym none
 
@@ -71,34 +71,41 @@ module _ (n limit : ℕ) (most : n ≤ 64) (s : List ℕ) where
   calls-whole [] r h w = w
   calls-whole (c ∷ cs) r h w = calls-whole cs (c .ran .replay) (h .1) (call-whole r c (h .0) w)
 
+pub calls-channels : (s : List ℕ) (cs : List RunCall) (r : Replay) → CallsFrom r s cs → leftBy r cs .channels ≡ r .channels
+calls-channels s [] r h = refl
+calls-channels s (c ∷ cs) r h = calls-channels s cs (c .ran .replay) (h .1) ∙ h .0 .same-channels
+
+-- in the ring of n with these open channels
+module _ (n limit : ℕ) (most : n ≤ 64) (channels s : List ℕ) where
   -- the calls, and then j records more: as many records in one
   abbrev pub Joins : Replay → List RunCall → ℕ → Type 0
   Joins r cs j =
-      (gone (courseOf r) (recordsFrom (turnsBy r cs + j) n s (r .at)) ≡ gone (courseOf (leftBy r cs)) (recordsFrom j n s (leftBy r cs .at)))
-      × (goneText (courseOf r) (recordsFrom (turnsBy r cs + j) n s (r .at)) ≡ writtenBy cs ++ goneText (courseOf (leftBy r cs)) (recordsFrom j n s (leftBy r cs .at)))
+      (gone (courseOf r) (heardFrom n channels (turnsBy r cs + j) s (r .at)) ≡ gone (courseOf (leftBy r cs)) (heardFrom n channels j s (leftBy r cs .at)))
+      × (goneText (courseOf r) (heardFrom n channels (turnsBy r cs + j) s (r .at)) ≡ writtenBy cs ++ goneText (courseOf (leftBy r cs)) (heardFrom n channels j s (leftBy r cs .at)))
 
-  joins-more : (r : Replay) (c : RunCall) (cs : List RunCall) (j : ℕ) → r .n ≡ n → RanFrom r s (c .before) (c .at) (c .ran) (c .behind)
+  joins-more : (r : Replay) (c : RunCall) (cs : List RunCall) (j : ℕ) → r .n ≡ n → r .channels ≡ channels → RanFrom r s (c .before) (c .at) (c .ran) (c .behind)
       → Joins (c .ran .replay) cs j → Joins r (c ∷ cs) j
-  joins-more r c cs j en h i =
+  joins-more r c cs j en ec h i =
       let t : ℕ = turnsIn (length (c .before) - c .at) (r .done) in
       let m : ℕ = turnsBy (c .ran .replay) cs in
       let e : Course = courseOf (leftBy (c .ran .replay) cs) in
-      let left : List Record = recordsFrom j n s (leftBy (c .ran .replay) cs .at) in
+      let left : List Record = heardFrom n channels j s (leftBy (c .ran .replay) cs .at) in
       let all = call-joins r s (c .before) (c .at) (c .ran) (c .behind) h (m + j) in
-      let first : recordsFrom (t + m + j) n s (r .at) ≡ recordsFrom (t + (m + j)) (r .n) s (r .at) =
-      ap (λ (k : ℕ). recordsFrom k n s (r .at)) (add-assoc t m j) ∙ ap (λ (k : ℕ). recordsFrom (t + (m + j)) k s (r .at)) (sym en) in
-      let next : recordsFrom (m + j) (r .n) s (c .ran .replay .at) ≡ recordsFrom (m + j) n s (c .ran .replay .at) =
-      ap (λ (k : ℕ). recordsFrom (m + j) k s (c .ran .replay .at)) en in (
+      let first : heardFrom n channels (t + m + j) s (r .at) ≡ heardFrom (r .n) (r .channels) (t + (m + j)) s (r .at) =
+      ap (λ (k : ℕ). heardFrom n channels k s (r .at)) (add-assoc t m j) ∙ same-heard n (r .n) channels (r .channels) (sym en) (sym ec) (t + (m + j)) s (r .at) in
+      let next : heardFrom (r .n) (r .channels) (m + j) s (c .ran .replay .at) ≡ heardFrom n channels (m + j) s (c .ran .replay .at) =
+      same-heard (r .n) n (r .channels) channels en ec (m + j) s (c .ran .replay .at) in (
         ap (gone (courseOf r)) first ∙ all .0 ∙ ap (gone (courseOf (c .ran .replay))) next ∙ i .0,
         ap (goneText (courseOf r)) first
             ∙ all .1
-            ∙ ap (λ (x : List ℕ). x ++ goneText (courseOf (c .ran .replay)) (recordsFrom (m + j) (r .n) s (c .ran .replay .at))) (sym (call-writes r s (c .before) (c .at) (c .ran) (c .behind) h))
+            ∙ ap (λ (x : List ℕ). x ++ goneText (courseOf (c .ran .replay)) (heardFrom (r .n) (r .channels) (m + j) s (c .ran .replay .at))) (sym (call-writes r s (c .before) (c .at) (c .ran) (c .behind) h))
             ∙ ap (λ (x : List ℕ). written c ++ x) (ap (goneText (courseOf (c .ran .replay))) next ∙ i .1)
             ∙ sym (append-assoc (written c) (writtenBy cs) (goneText e left)),
       )
 
-  pub calls-join : (cs : List RunCall) (r : Replay) → CallsFrom r s cs → WholeDay n limit (courseOf r .day) → (j : ℕ) → Joins r cs j
-  calls-join [] r h w j =
-      let e : recordsFrom (0 + j) n s (r .at) ≡ recordsFrom j n s (r .at) = ap (λ (k : ℕ). recordsFrom k n s (r .at)) (zero-add j) in
+  pub calls-join : (cs : List RunCall) (r : Replay) → CallsFrom r s cs → WholeDay n limit (courseOf r .day) → r .channels ≡ channels → (j : ℕ) → Joins r cs j
+  calls-join [] r h w ec j =
+      let e : heardFrom n channels (0 + j) s (r .at) ≡ heardFrom n channels j s (r .at) = ap (λ (k : ℕ). heardFrom n channels k s (r .at)) (zero-add j) in
       (ap (gone (courseOf r)) e, ap (goneText (courseOf r)) e)
-  calls-join (c ∷ cs) r h w j = joins-more r c cs j (w .size) (h .0) (calls-join cs (c .ran .replay) (h .1) (call-whole r c (h .0) w) j)
+  calls-join (c ∷ cs) r h w ec j =
+      joins-more r c cs j (w .size) ec (h .0) (calls-join cs (c .ran .replay) (h .1) (call-whole n limit most s r c (h .0) w) (h .0 .same-channels ∙ ec) j)

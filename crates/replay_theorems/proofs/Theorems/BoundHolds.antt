@@ -1,7 +1,7 @@
 -- So the bound of demand 3 holds of a capture of records 0 and 4: an accepted message that stays strictly above every other waiting one goes
 -- within the bound. Assumes nothing.
 use mathlib.Core.Path.{_≡_, refl, sym, ap, subst, _∙_}
-use mathlib.Core.Bool.{true}
+use mathlib.Core.Bool.{Bool, true}
 use mathlib.Core.List.{List, [], _∷_, _++_}
 use Prim.Native.Nat.{ℕ, _+_, _<_, _≤_}
 use lib.ListN.{length}
@@ -20,11 +20,12 @@ use Rattle.waiting.specs.Waiting.{spotFor, StaysOnTop, atQueue}
 use Rattle.waiting.proofs.Theorems.Bound.{bound}
 use Rattle.capture.specs.declared.record.Event.the-variants.{Queue}
 use Rattle.day.specs.Day.{memberAt, begunBy, startDay}
-use Rattle.replay.specs.Runs.{Record, good, Course, turn, gone, begun, recordsOf}
+use Rattle.replay.specs.Runs.{Record, good, Course, turn, gone, begun, recordsOf, askedAll}
 use Rattle.replay_theorems.specs.Lines.{runLines}
 use Rattle.replay_theorems.specs.Read.{AllRead}
 use Rattle.replay_theorems.specs.FaultFree.{isFaultFree, benchEvents, acceptedOn, BoundHolds}
-use Rattle.replay_theorems.proofs.Laws.Reading.{all-read}
+use Rattle.replay_theorems.proofs.Laws.Reading.{all-asked}
+use Rattle.replay_theorems.proofs.Laws.SameKinds.{asked-free}
 use Rattle.replay_theorems.proofs.Laws.OnBench.{queue-number, queue-n}
 use Rattle.replay_theorems.proofs.Laws.SameRun.{asBench, Same, run-same, first-same}
 
@@ -87,10 +88,10 @@ module _ (n limit : ℕ) (two : 2 ≤ n) (most : n ≤ 64) (low : 1 ≤ limit) (
       }
 
   -- of a capture
-  pub capture-bound : (s : List ℕ) → every isFaultFree (recordsOf n s) ≡ true
-      → (early : List Record) (from : ℕ) (r : Request) (after : List Record) → recordsOf n s ≡ early ++ (good (Queue from r) ∷ after)
+  pub capture-bound : (hears : ℕ → ℕ → Bool) (s : List ℕ) → every isFaultFree (recordsOf n s) ≡ true
+      → (early : List Record) (from : ℕ) (r : Request) (after : List Record) → askedAll hears (recordsOf n s) ≡ early ++ (good (Queue from r) ∷ after)
       → queueRule (memberAt (gone (begun (startDay n limit)) early .day) from) r .number ≡ 0
       → StaysOnTop (spotFor (atQueue n limit (benchEvents early)) from) (r .priority) (acceptedOn n limit early from r) (benchEvents after)
       → BoundHolds n limit early from r after
-  capture-bound s f early from r after e z t =
-      bound-holds early from r after (subst (AllRead n) e (all-read n s)) (ap (every isFaultFree) (sym e) ∙ f) z t
+  capture-bound hears s f early from r after e z t =
+      bound-holds early from r after (subst (AllRead n) e (all-asked n hears s)) (ap (every isFaultFree) (sym e) ∙ asked-free hears (recordsOf n s) f) z t

@@ -9,7 +9,7 @@ use native.Mathlib.Omega.{arith}
 use lib.ListN.{length, getD, take, drop, length-append}
 use lib.Seq.{length-take-le, drop-cons}
 use borrow.Author.Tests.{eq-eqb, ne-eqb}
-use Rattle.codec.specs.Ring.{count, limit}
+use Rattle.codec.specs.Ring.{count, limit, ringOf, listens}
 use Rattle.parts.specs.Live.{seats}
 use Rattle.parts.proofs.Laws.Choose.{pick-true, pick-false}
 use Rattle.parts.proofs.Laws.Live.{seats-most}
@@ -17,18 +17,20 @@ use Rattle.station.specs.declared.station.Station.{Station}
 use Rattle.bench.specs.Ring.{nobody}
 use Rattle.bench.specs.Text.{answerText}
 use Rattle.day.specs.Day.{Day}
+use Rattle.day.specs.Listening.{heardIn}
 use Rattle.day.specs.Printed.{startText, endHeading, stationText, stationsText, endText}
-use Rattle.replay.specs.Runs.{Record, recordsFrom, recordsOf, Course, gone, goneText, begun, dayText, refusal, output}
+use Rattle.replay.specs.Runs.{Record, recordsOf, askedAll, heardFrom, recordsWith, Course, gone, goneText, begun, dayText, refusal, output}
 use Rattle.replay.specs.Replays.{courseOf, isOver, recordsNow, RanFrom}
 use Rattle.replay.specs.declared.run.Replay.{Replay}
 use Rattle.replay.specs.declared.run.Ran.{Ran}
+use Rattle.replay.proofs.Laws.Running.{same-heard}
 use Rattle.replay.proofs.Theorems.Calls.{over-all}
 use Rattle.replay_theorems.specs.WholeDay.{WholeDay}
 use Rattle.replay_theorems.specs.EveryCapture.{dayOf}
 use Rattle.replay_theorems.specs.Calls.{BegunFrom, RunCall, CallsFrom, leftBy, writtenBy, stationLines}
 use Rattle.replay_theorems.proofs.Laws.Beginning.{start-whole-day}
 use Rattle.replay_theorems.proofs.Laws.Offsets.{records-enough}
-use Rattle.replay_theorems.proofs.Laws.Calling.{turnsBy, calls-whole, calls-join}
+use Rattle.replay_theorems.proofs.Laws.Calling.{turnsBy, calls-whole, calls-channels, calls-join}
 use Rattle.replay_theorems.proofs.Theorems.EveryCapture.{output-is, every-capture}
 
 -- ---- a call's octets stand in its out buffer
@@ -65,6 +67,15 @@ pub refusal-prints : (file s : List ℕ) → (refusal file s ≡ 0 → ⊥) → 
 unfolding output
 refusal-prints file s o = sym (pick-false _ _ (ne-eqb _ _ o))
 
+-- ---- what the ring file says of the records
+
+who-listens : (file : List ℕ) (p channel : ℕ) → heardIn (count file) (ringOf file .channels) p channel ≡ listens (ringOf file) p channel
+unfolding listens ringOf
+who-listens file p channel = refl
+
+heard-with : (file : List ℕ) (rs : List Record) → askedAll (heardIn (count file) (ringOf file .channels)) rs ≡ askedAll (listens (ringOf file)) rs
+heard-with file rs = λ i. askedAll (λ (p channel : ℕ). who-listens file p channel i) rs
+
 -- ---- a day
 
 -- of a course that has begun
@@ -92,22 +103,26 @@ module _ (file s : List ℕ) (good : refusal file s ≡ 0) (r : Replay) (b : Beg
   left-whole : WholeDay n (limit file) (courseOf e .day)
   left-whole = calls-whole n (limit file) (every-capture file s good .most-members) s cs r h first-whole
 
+  first-channels : r .channels ≡ ringOf file .channels
+  first-channels = b .open-channels ∙ pick-true _ _ (eq-eqb _ _ good)
+
   -- as many records as there are octets, and more, are all of them
-  all-records : recordsFrom (turnsBy r cs + length s) n s (r .at) ≡ recordsOf n s
+  all-records : heardFrom n (ringOf file .channels) (turnsBy r cs + length s) s (r .at) ≡ recordsWith file s
   all-records =
-      ap (recordsFrom (turnsBy r cs + length s) n s) (b .first)
-      ∙ ap (λ (k : ℕ). recordsFrom k n s 0) (add-comm (turnsBy r cs) (length s))
-      ∙ records-enough n s (length s) (turnsBy r cs) 0 (omega arith)
+      ap (heardFrom n (ringOf file .channels) (turnsBy r cs + length s) s) (b .first)
+      ∙ ap (λ (k : ℕ). heardFrom n (ringOf file .channels) k s 0) (add-comm (turnsBy r cs) (length s))
+      ∙ ap (askedAll (heardIn n (ringOf file .channels))) (records-enough n s (length s) (turnsBy r cs) 0 (omega arith))
+      ∙ heard-with file (recordsOf n s)
 
   pub calls-print : isOver e s ≡ true → startText (courseOf r .day) ++ (writtenBy cs ++ endText (courseOf e .day)) ≡ output file s
   calls-print ends =
-      let all = calls-join n (limit file) (every-capture file s good .most-members) s cs r h first-whole (length s) in
+      let all = calls-join n (limit file) (every-capture file s good .most-members) (ringOf file .channels) s cs r h first-whole first-channels (length s) in
       let none = over-all e s ends (length s) in
-      let same : recordsFrom (length s) n s (e .at) ≡ recordsFrom (length s) (e .n) s (e .at) =
-      ap (λ (k : ℕ). recordsFrom (length s) k s (e .at)) (sym (left-whole .size)) in
-      let leaves : courseOf e ≡ gone (courseOf r) (recordsOf n s) =
+      let same : heardFrom n (ringOf file .channels) (length s) s (e .at) ≡ heardFrom (e .n) (e .channels) (length s) s (e .at) =
+      same-heard n (e .n) (ringOf file .channels) (e .channels) (sym (left-whole .size)) (sym (calls-channels s cs r h ∙ first-channels)) (length s) s (e .at) in
+      let leaves : courseOf e ≡ gone (courseOf r) (recordsWith file s) =
       sym (ap (gone (courseOf r)) (sym all-records) ∙ all .0 ∙ ap (gone (courseOf e)) same ∙ none .0) in
-      let writes : writtenBy cs ≡ goneText (courseOf r) (recordsOf n s) =
+      let writes : writtenBy cs ≡ goneText (courseOf r) (recordsWith file s) =
       sym (append-nil (writtenBy cs))
       ∙ sym (ap (goneText (courseOf r)) (sym all-records) ∙ all .1 ∙ ap (λ (t : List ℕ). writtenBy cs ++ t) (ap (goneText (courseOf e)) same ∙ none .1)) in
-      day-text (courseOf r) (dayOf file) (recordsOf n s) (writtenBy cs) (courseOf e) first-course leaves writes ∙ sym (output-is file s good)
+      day-text (courseOf r) (dayOf file) (recordsWith file s) (writtenBy cs) (courseOf e) first-course leaves writes ∙ sym (output-is file s good)

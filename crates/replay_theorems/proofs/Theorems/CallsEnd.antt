@@ -15,7 +15,7 @@ use Rattle.capture.specs.declared.record.Read.the-variants.{End}
 use Rattle.capture.proofs.Laws.Reading.{read-end}
 use Rattle.capture.proofs.Theorems.Numbers.{capture-passes}
 use Rattle.replay.specs.Running.{longest}
-use Rattle.replay.specs.Runs.{recordsFrom, Course, gone, refusal}
+use Rattle.replay.specs.Runs.{heardFrom, Course, gone, refusal}
 use Rattle.replay.specs.Replays.{courseOf, isEnd, isOver, turnsIn, RanFrom}
 use Rattle.replay.specs.declared.run.Replay.{Replay}
 use Rattle.replay.specs.declared.run.Ran.{Ran}
@@ -71,17 +71,17 @@ module _ (r : Replay) (s out₀ : List ℕ) (at : ℕ) (a : Ran) (out : List ℕ
   call-further : (r .done ≤ a .replay .done) × (r .at + (a .replay .done - r .done) ≤ a .replay .at)
   call-further =
       let f : Further (r .n) s (r .at) (r .done) (a .replay .done) =
-      subst (λ (c : Course). Further (r .n) s (r .at) (r .done) (c .done)) (sym (h .course)) (gone-further (r .n) s turns (courseOf r) (r .at)) in
+      subst (λ (c : Course). Further (r .n) s (r .at) (r .done) (c .done)) (sym (h .course)) (gone-further (r .n) (r .channels) s turns (courseOf r) (r .at)) in
       (f .0, omega (arith, f .1, h .offset))
 
   pub call-goes-on : longest ≤ length out₀ - at → r .done < 2 ^ 63 → isOver r s ≡ false → a .replay .number ≡ 0 → r .at < a .replay .at
   call-goes-on room counted on going =
       let some : 0 < turns = some-turns (length out₀ - at) (r .done) room counted in
       let one : turns ≡ suc (turns - 1) = omega (arith, some) in
-      let leaves : courseOf (a .replay) ≡ gone (courseOf r) (recordsFrom (suc (turns - 1)) (r .n) s (r .at)) =
-      h .course ∙ ap (λ (k : ℕ). gone (courseOf r) (recordsFrom k (r .n) s (r .at))) one in
+      let leaves : courseOf (a .replay) ≡ gone (courseOf r) (heardFrom (r .n) (r .channels) (suc (turns - 1)) s (r .at)) =
+      h .course ∙ ap (λ (k : ℕ). gone (courseOf r) (heardFrom (r .n) (r .channels) k s (r .at))) one in
       let begins = not-over r s on in
-      let more = does-one (r .n) s (turns - 1) (courseOf r) (r .at) (begins .0) (begins .1) (ap (λ (c : Course). c .number) (sym leaves) ∙ going) in
+      let more = does-one (r .n) (r .channels) s (turns - 1) (courseOf r) (r .at) (begins .0) (begins .1) (ap (λ (c : Course). c .number) (sym leaves) ∙ going) in
       omega (arith, more, ap (λ (c : Course). c .done) leaves, call-further .1)
 
   -- where it was over, it is

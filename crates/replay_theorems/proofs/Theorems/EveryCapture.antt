@@ -7,14 +7,14 @@ use Prim.Native.Nat.{ℕ}
 use native.Mathlib.Omega.{arith}
 use lib.Dec.{eqb}
 use borrow.Author.Tests.{eqb-true, eqb-false, eq-eqb}
-use Rattle.codec.specs.Ring.{ringRefusal, count}
+use Rattle.codec.specs.Ring.{ringRefusal}
 use Rattle.codec.proofs.Laws.Bits.{bits-below}
 use Rattle.codec.proofs.Laws.Ring.{head-good, head-passed}
 use Rattle.parts.proofs.Laws.Choose.{pick-true, pick-false}
 use Rattle.capture.specs.Record.{captureNumber}
 use Rattle.day.specs.Day.{Day}
 use Rattle.day.specs.Printed.{startText, endText}
-use Rattle.replay.specs.Runs.{Record, gone, begun, dayText, recordsOf, refusal, output}
+use Rattle.replay.specs.Runs.{Record, gone, begun, dayText, recordsWith, refusal, output}
 use Rattle.replay_theorems.specs.Lines.{linesText, runLines}
 use Rattle.replay_theorems.specs.EveryCapture.{dayOf, Printed}
 use Rattle.replay_theorems.proofs.Theorems.LinesPrinted.{lines-printed}
@@ -32,7 +32,7 @@ pub capture-passed : (file s : List ℕ) → refusal file s ≡ 0 → captureNum
 unfolding refusal
 capture-passed file s z = sym (pick-true (captureNumber s) (ringRefusal file) (eq-eqb _ _ (ring-passes file s z))) ∙ z
 
-pub output-is : (file s : List ℕ) → refusal file s ≡ 0 → output file s ≡ dayText (dayOf file) (recordsOf (count file) s)
+pub output-is : (file s : List ℕ) → refusal file s ≡ 0 → output file s ≡ dayText (dayOf file) (recordsWith file s)
 unfolding output
 output-is file s z = pick-true _ _ (eq-eqb _ _ z)
 
@@ -48,5 +48,5 @@ every-capture file s z =
       most-members = omega (arith, bits-below file 4 6);
       some-retry = omega (arith, h .some-limit);
       most-retries = omega (arith, bits-below file 10 4);
-      prints = output-is file s z ∙ day-lines (dayOf file) (recordsOf (count file) s);
+      prints = output-is file s z ∙ day-lines (dayOf file) (recordsWith file s);
     }

@@ -1,7 +1,7 @@
 -- "Demand 3 is read only for records 0 and 4": a capture of such records gives exactly the frames, refused numbers and stations of the bench's
 -- steps and queue calls, on a ring of this size with this retry limit. Assumes nothing.
 use mathlib.Core.Path.{_≡_, refl, ap, _∙_}
-use mathlib.Core.Bool.{true}
+use mathlib.Core.Bool.{Bool, true}
 use mathlib.Core.List.{List, [], _∷_, _++_}
 use Prim.Native.Nat.{ℕ, _≤_}
 use native.Mathlib.Omega.{arith}
@@ -11,11 +11,12 @@ use Rattle.bench.specs.Runs.{Event as BenchEvent, stepped, queued as queueCall,
 use Rattle.bench.specs.declared.ring.Bench.{Bench}
 use Rattle.bench.specs.declared.rows.Row.{Row}
 use Rattle.day.specs.Day.{begunBy, startDay}
-use Rattle.replay.specs.Runs.{Record, Course, begun, recordsOf}
+use Rattle.replay.specs.Runs.{Record, Course, begun, recordsOf, askedAll}
 use Rattle.replay_theorems.specs.Lines.{Line, struck, sent, queued, stopped, sentLines, linesText}
 use Rattle.replay_theorems.specs.Read.{AllRead}
 use Rattle.replay_theorems.specs.FaultFree.{isFaultFree, benchEvents, eventLines, eventsLines, framesIn, AsOnBench}
-use Rattle.replay_theorems.proofs.Laws.Reading.{all-read}
+use Rattle.replay_theorems.proofs.Laws.Reading.{all-asked}
+use Rattle.replay_theorems.proofs.Laws.SameKinds.{asked-free}
 use Rattle.replay_theorems.proofs.Theorems.LinesPrinted.{lines-printed}
 use Rattle.replay_theorems.proofs.Laws.SameRun.{first-same}
 
@@ -63,5 +64,6 @@ module _ (n limit : ℕ) (two : 2 ≤ n) (most : n ≤ 64) (low : 1 ≤ limit) (
         same-text = lines-printed (begun (begunBy (ringWith n limit))) rs ∙ ap linesText (s .lines);
       }
 
-  pub capture-as-on-bench : (s : List ℕ) → every isFaultFree (recordsOf n s) ≡ true → AsOnBench n limit (recordsOf n s)
-  capture-as-on-bench s f = as-on-bench (recordsOf n s) (all-read n s) f
+  -- of a capture, whoever listens on which channel
+  pub capture-as-on-bench : (hears : ℕ → ℕ → Bool) (s : List ℕ) → every isFaultFree (recordsOf n s) ≡ true → AsOnBench n limit (askedAll hears (recordsOf n s))
+  capture-as-on-bench hears s f = as-on-bench (askedAll hears (recordsOf n s)) (all-asked n hears s) (asked-free hears (recordsOf n s) f)

@@ -1,18 +1,19 @@
 -- A stopped run leaves what the run of the records before the refused one leaves, and prints what that prints but for the stop line.
 -- A run that is not stopped has done every record. Assumes nothing.
 use mathlib.Core.Path.{_≡_, refl, sym, ap, _∙_}
+use mathlib.Core.Bool.{Bool}
 use mathlib.Core.List.{List, [], _∷_, _++_, append-assoc, append-nil}
 use Prim.Native.Nat.{ℕ, suc, _+_}
 use native.Mathlib.Omega.{arith}
 use lib.ListN.{length}
 use Rattle.day.specs.Day.{Day}
 use Rattle.day.specs.Printed.{startText, stoppedText, endText}
-use Rattle.replay.specs.Runs.{Record, good, bad, Course, stopped, recordNumber, turn, turnText, gone, goneText, begun, dayText, recordsOf}
+use Rattle.replay.specs.Runs.{Record, good, bad, Course, stopped, recordNumber, turn, turnText, gone, goneText, begun, dayText, recordsOf, askedAll}
 use Rattle.replay.proofs.Laws.Running.{gone-one, text-one, gone-none}
 use Rattle.replay_theorems.specs.Read.{IsRead, AllRead}
 use Rattle.replay_theorems.specs.Stops.{Stops}
 use Rattle.replay_theorems.proofs.Laws.Turning.{Turned, Turns, over, stops, goes, turns, bad-number}
-use Rattle.replay_theorems.proofs.Laws.Reading.{all-read}
+use Rattle.replay_theorems.proofs.Laws.Reading.{all-asked}
 
 -- ---- a stopped run stays as it is
 
@@ -159,5 +160,5 @@ stops-before n d rs h o =
           ∙ ap (λ (k : ℕ). startText d ++ (goneText (begun d) (s .before) ++ (stoppedText (gone (begun d) rs .number) k ++ endText (b .day)))) count;
     }
 
-pub capture-stops : (n : ℕ) (d : Day) (s : List ℕ) → (gone (begun d) (recordsOf n s) .number ≡ 0 → ⊥) → Stops d (recordsOf n s)
-capture-stops n d s o = stops-before n d (recordsOf n s) (all-read n s) o
+pub capture-stops : (n : ℕ) (hears : ℕ → ℕ → Bool) (d : Day) (s : List ℕ) → (gone (begun d) (askedAll hears (recordsOf n s)) .number ≡ 0 → ⊥) → Stops d (askedAll hears (recordsOf n s))
+capture-stops n hears d s o = stops-before n d (askedAll hears (recordsOf n s)) (all-asked n hears s) o

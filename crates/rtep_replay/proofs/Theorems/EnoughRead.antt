@@ -10,9 +10,9 @@ use lib.ListN.{length, take}
 use lib.Seq.{take-all, length-take-le, getD-take}
 use Rattle.codec.specs.Order.{firstOf}
 use Rattle.codec.specs.Bits.{bits}
-use Rattle.codec.specs.Ring.{form, others, count, limit, zeroBits, headRefusal, ringRefusal}
+use Rattle.codec.specs.Ring.{form, others, count, limit, lastBits, fileOctets, isForm, lastBad, lastNumber, headRefusal, ringRefusal}
 use Rattle.codec.proofs.Laws.Bits.{bits-below}
-use Rattle.codec.proofs.Laws.Ring.{head-good, head-passed, refused-early}
+use Rattle.codec.proofs.Laws.Ring.{octets-most, head-good, head-passed, refused-early}
 use Rattle.parts.specs.Choose.{pick}
 use Rattle.capture.specs.Record.{mostOctets, captureNumber}
 use Rattle.capture.proofs.Theorems.Numbers.{start-enough, taken-whole}
@@ -31,20 +31,20 @@ bits-start s k at (suc w) h =
 
 -- what a head is refused for that is too long for any ring
 abbrev LongTests : List ℕ → List (Bool × ℕ)
-LongTests file = (not (eqb (form file) 1), 2) ∷ (not (eqb (zeroBits file) 0), 3) ∷ (eqb (others file) 0, 4) ∷ (eqb (limit file) 0, 5) ∷ []
+LongTests file = (not (isForm (form file)), 2) ∷ (lastBad (form file) (lastBits file), lastNumber (form file)) ∷ (eqb (others file) 0, 4) ∷ (eqb (limit file) 0, 5) ∷ []
 
-module _ (file : List ℕ) (h : 386 < length file) where
-  other-length : length file ≡ 2 + 6 * count file → ⊥
-  other-length e = omega (arith, h, bits-below file 4 6)
+module _ (file : List ℕ) (h : 450 < length file) where
+  other-length : length file ≡ fileOctets (form file) (count file) → ⊥
+  other-length e = omega (arith, h, e, octets-most (form file) (count file) (omega (arith, bits-below file 4 6)))
 
   head-long : headRefusal file ≡ firstOf 1 (LongTests file)
   unfolding headRefusal
-  head-long = rw (le-ltb (length file) 2 (omega arith), ne-eqb (length file) (2 + 6 * count file) other-length)
+  head-long = rw (le-ltb (length file) 2 (omega arith), ne-eqb (length file) (fileOctets (form file) (count file)) other-length)
 
   ring-long : ringRefusal file ≡ headRefusal file
   ring-long = refused-early file (λ e. other-length (head-good file e .sized))
 
-pub ring-enough : (file : List ℕ) (k : ℕ) → 386 < k → ringRefusal (take k file) ≡ ringRefusal file
+pub ring-enough : (file : List ℕ) (k : ℕ) → 450 < k → ringRefusal (take k file) ≡ ringRefusal file
 ring-enough file k h = go (leb (length file) k) refl
   where
     go : (b : Bool) → leb (length file) k ≡ b → ringRefusal (take k file) ≡ ringRefusal file
@@ -52,17 +52,17 @@ ring-enough file k h = go (leb (length file) k) refl
     go false e =
         let more : k < length file = leb-false _ _ e in
         let long : length (take k file) ≡ k = length-take-le k file (omega arith) in
-        let t : 386 < length (take k file) = rw long h in
-        let u : 386 < length file = omega arith in
+        let t : 450 < length (take k file) = rw long h in
+        let u : 450 < length file = omega arith in
         ring-long (take k file) t
         ∙ head-long (take k file) t
         ∙ rw (bits-start file k 0 4 (omega arith), bits-start file k 14 2 (omega arith), bits-start file k 4 6 (omega arith), bits-start file k 10 4 (omega arith)) refl
         ∙ sym (head-long file u)
         ∙ sym (ring-long file u)
 
-ring-whole : (file : List ℕ) (k : ℕ) → 386 < k → ringRefusal file ≡ 0 → take k file ≡ file
+ring-whole : (file : List ℕ) (k : ℕ) → 450 < k → ringRefusal file ≡ 0 → take k file ≡ file
 ring-whole file k h e =
-    take-all k file (omega (arith, h, head-good file (head-passed file e) .sized, bits-below file 4 6))
+    take-all k file (omega (arith, h, head-good file (head-passed file e) .sized, octets-most (form file) (count file) (omega (arith, bits-below file 4 6))))
 
 -- ---- what is printed
 
@@ -75,11 +75,11 @@ both-pass file s e = go (eqb (ringRefusal file) 0) refl e
     go true h e′ = (eqb-true _ _ h, e′)
     go false h e′ = absurd (eqb-false _ _ h e′)
 
-same-refusal : (file s : List ℕ) (k m : ℕ) → 386 < k → mostOctets < m → refusal (take k file) (take m s) ≡ refusal file s
+same-refusal : (file s : List ℕ) (k m : ℕ) → 450 < k → mostOctets < m → refusal (take k file) (take m s) ≡ refusal file s
 unfolding refusal
 same-refusal file s k m hk hm = rw (ring-enough file k hk, start-enough s m hm)
 
-pub enough-read : (file s : List ℕ) (k m : ℕ) → 386 < k → mostOctets < m → output (take k file) (take m s) ≡ output file s
+pub enough-read : (file s : List ℕ) (k m : ℕ) → 450 < k → mostOctets < m → output (take k file) (take m s) ≡ output file s
 unfolding output pick
 enough-read file s k m hk hm = go (eqb (refusal file s) 0) refl
   where

@@ -1,57 +1,33 @@
--- The octets of a good ring's file, field by field, and its checks. Assumes nothing.
+-- The octets of a good ring's file of form 1, and its checks. Assumes nothing.
 use mathlib.Core.Path.{_≡_, refl, sym, ap, _∙_}
-use mathlib.Core.Bool.{false, not}
+use mathlib.Core.Bool.{Bool, true, false}
 use mathlib.Core.List.{List, [], _∷_, _++_}
 use Prim.Native.Nat.{ℕ, zero, suc, _+_, _-_, _*_, _/_, _%_, _^_, _<_, _≤_, zero-le, suc-le-suc}
-use native.Mathlib.Nat.{mod-lt}
+use native.Mathlib.Numerals.{add-one}
 use native.Mathlib.Omega.{arith}
-use borrow.Author.Tests.{le-ltb, eq-eqb, ne-eqb}
-use lib.ListN.{length, take, drop, getD, length-append}
-use lib.Seq.{length-take-le, take-length, take-suc, take-at, getD-take, drop-append-add}
+use borrow.Author.Tests.{le-ltb, lt-ltb, ltb-true, ltb-false, ne-eqb}
+use lib.Dec.{ltb}
+use lib.ListN.{length, take, drop, getD, replicate, length-replicate, getD-replicate, replicate-append-replicate, List·getD-eq-default}
+use lib.Seq.{length-take-le, getD-take}
 use Rattle.codec.specs.Order.{firstOf}
-use Rattle.codec.specs.Octets.{Octets, octets, number, numberAt}
-use Rattle.codec.specs.Bits.{bits}
-use Rattle.codec.specs.Ring.{form, others, count, limit, zeroBits, addressesOf, badAddress, position, headTests, addressTests, addressesTests, headRefusal, addressRefusal, addressesRefusal, ringRefusal, filled, addressOctets, ringFile, readRing, fileOctets, headLength}
+use Rattle.codec.specs.Octets.{octets}
+use Rattle.codec.specs.Ring.{form, limit, version, count, addressesOf, allChannels, channelsAt, channelsOf, badAddress, position, addressTests, addressesTests, headRefusal, addressRefusal, addressesRefusal, ringRefusal, filled, membersOctets, ringFile, readRing}
 use Rattle.codec.specs.Ring as ring
-use Rattle.codec.proofs.Laws.Octets.{back}
 use Rattle.codec.proofs.Laws.Order.{first-passed}
-use Rattle.codec.proofs.Laws.Bits.{bits-below, bits-join, bits-octets}
 use Rattle.codec.proofs.Laws.Ring.{addresses-more, addresses-none, members-filled, refused-late, read-good}
+use Rattle.codec.proofs.Laws.Channels.{all-in}
+use Rattle.codec.proofs.Laws.Written as written
 use Rattle.rtep_theorems.specs.Rings.{GoodRing, ringWith, fileWith}
 
--- ---- octets
-
-octets-small : (k v : ℕ) → Octets (octets k v)
-octets-small zero v i = suc-le-suc zero-le
-octets-small (suc k) v zero = mod-lt _ (suc-le-suc zero-le)
-octets-small (suc k) v (suc i) = octets-small k v i
-
--- what bounds two lists bounds them joined
-pub below-append : (b : ℕ) (s t : List ℕ) → ((i : ℕ) → getD s i 0 < b) → ((i : ℕ) → getD t i 0 < b) → (i : ℕ) → getD (s ++ t) i 0 < b
-below-append b [] t p q i = q i
-below-append b (x ∷ xs) t p q zero = p 0
-below-append b (x ∷ xs) t p q (suc i) = below-append b xs t (λ j. p (suc j)) q i
-
-addresses-small : (ms : List ℕ) → Octets (addressOctets ms)
-unfolding addressOctets
-addresses-small [] i = suc-le-suc zero-le
-addresses-small (a ∷ ms) i = below-append 256 (octets 6 a) (addressOctets ms) (octets-small 6 a) (addresses-small ms) i
-
-length-octets-of : (ms : List ℕ) → length (addressOctets ms) ≡ 6 * length ms
-unfolding addressOctets
-length-octets-of [] = refl
-length-octets-of (a ∷ ms) = length-append (octets 6 a) (addressOctets ms) ∙ ap (λ (n : ℕ). 6 + n) (length-octets-of ms) ∙ omega arith
-
--- each address stands at its place
-address-at : (ms : List ℕ) (k : ℕ) → k < length ms → getD ms k 0 < 2 ^ 48 → numberAt (addressOctets ms) (6 * k) 6 ≡ getD ms k 0
-unfolding addressOctets
-address-at [] k h fits = absurd (omega arith)
-address-at (a ∷ ms) zero h fits = ap number (take-at (octets 6 a) (addressOctets ms) 6 refl) ∙ back 6 a fits
-address-at (a ∷ ms) (suc k) h fits =
-    let place : 6 * suc k ≡ 6 + 6 * k = omega arith in
-    ap (λ (j : ℕ). numberAt (octets 6 a ++ addressOctets ms) j 6) place
-    ∙ ap (λ (l : List ℕ). number (take 6 l)) (drop-append-add (octets 6 a) (addressOctets ms) (6 * k))
-    ∙ address-at ms k (omega arith) fits
+-- in form 1 all of them
+pub all-channels : (file : List ℕ) (n : ℕ) → (form file ≡ 2 → ⊥) → channelsOf file n ≡ replicate n allChannels
+unfolding channelsOf
+all-channels file zero other = refl
+all-channels file (suc n) other =
+    ap (λ (l : List ℕ). l ++ (channelsAt file n ∷ [])) (all-channels file n other)
+    ∙ ap (λ (k : ℕ). replicate n allChannels ++ (k ∷ [])) (all-in file n other)
+    ∙ replicate-append-replicate n 1 allChannels
+    ∙ ap (λ (k : ℕ). replicate k allChannels) (add-one n)
 
 -- ---- an address that is nobody's
 
@@ -61,93 +37,67 @@ strangers [] a n = refl
 strangers (m ∷ ms) a n = rw (ne-eqb m a (n 0 (suc-le-suc zero-le))) (ap suc (strangers ms a (λ j h. n (suc j) (suc-le-suc h))))
 
 module _ (r : ℕ) (ms : List ℕ) (g : GoodRing r ms) where
-  abbrev headNumber : ℕ
-  headNumber = 2 ^ 12 + (length ms - 1) * 2 ^ 6 + r * 2 ^ 2
+  abbrev cs : List ℕ
+  cs = replicate (length ms) allChannels
+
+  same : length ms ≡ length cs
+  same = sym (length-replicate (length ms) allChannels)
+
+  retries : r < 16
+  retries = omega (arith, g .most-retries)
+
+  one : 1 ≤ 2
+  one = omega arith
+
+  first : 1 < 4
+  first = omega arith
 
   abbrev s : List ℕ
-  s = octets 2 headNumber ++ addressOctets ms
+  s = written.s 1 r 1 ms cs one same (g .some-members) (g .most-members) retries first
 
   file-is : fileWith r ms ≡ s
   unfolding ringFile
-  file-is = ap (λ (l : List ℕ). octets 2 headNumber ++ addressOctets l) (members-filled ms (length ms) refl)
+  file-is =
+      let n : ℕ = 1 * 2 ^ 12 + (length ms - 1) * 2 ^ 6 + r * 2 ^ 2 + 0 in
+      ap (λ (l : List ℕ). octets 2 n ++ membersOctets 1 l (take (length ms) (filled cs))) (members-filled ms (length ms) refl)
+      ∙ ap (λ (l : List ℕ). octets 2 n ++ membersOctets 1 ms l) (members-filled cs (length ms) (sym same))
 
-  small : Octets s
-  small = below-append 256 (octets 2 headNumber) (addressOctets ms) (octets-small 2 headNumber) (addresses-small ms)
-
-  long : length s ≡ fileOctets (length ms)
-  long = length-append (octets 2 headNumber) (addressOctets ms) ∙ ap (λ (n : ℕ). 2 + n) (length-octets-of ms)
-
-  -- ---- the head
-
-  head-is : headNumber ≡ ((form s * 2 ^ 6 + others s) * 2 ^ 4 + limit s) * 2 ^ 2 + zeroBits s
-  head-is =
-      let fits : headNumber < 256 ^ 2 = omega (arith, g .most-members, g .most-retries) in
-      sym (back 2 headNumber fits)
-      ∙ sym (bits-octets s 0 2 small (omega (arith, long)))
-      ∙ bits-join s 0 14 2
-      ∙ ap (λ (k : ℕ). k * 2 ^ 2 + zeroBits s) (bits-join s 0 10 4 ∙ ap (λ (k : ℕ). k * 2 ^ 4 + limit s) (bits-join s 0 4 6))
-
-  record Head : Type 0 where
-    form-is : form s ≡ 1
-    others-is : others s ≡ length ms - 1
-    limit-is : limit s ≡ r
-    zeros-is : zeroBits s ≡ 0
-
-  head : Head
-  head =
-      let a : form s < 16 = bits-below s 0 4 in
-      let b : others s < 64 = bits-below s 4 6 in
-      let c : limit s < 16 = bits-below s 10 4 in
-      let d : zeroBits s < 4 = bits-below s 14 2 in
-      let e : 4096 + (length ms - 1) * 64 + r * 4 ≡ ((form s * 64 + others s) * 16 + limit s) * 4 + zeroBits s = head-is in
-      let m : length ms ≤ 64 = g .most-members in
-      let n : 2 ≤ length ms = g .some-members in
-      let t : r ≤ 15 = g .most-retries in
-      record { form-is = omega arith; others-is = omega arith; limit-is = omega arith; zeros-is = omega arith }
+  head : written.Head 1 r 1 ms cs one same (g .some-members) (g .most-members) retries first
+  head = written.head 1 r 1 ms cs one same (g .some-members) (g .most-members) retries first
 
   count-is : count s ≡ length ms
-  count-is = let n : 2 ≤ length ms = g .some-members in omega (arith, head .others-is)
+  count-is = written.count-is 1 r 1 ms cs one same (g .some-members) (g .most-members) retries first
 
-  head-passes : headRefusal s ≡ 0
-  unfolding headRefusal
-  head-passes =
-      let n : 2 ≤ length ms = g .some-members in
-      let t : 1 ≤ r = g .some-retry in
-      first-passed 0 (headTests s) (
-        le-ltb (length s) headLength (omega (arith, long)),
-        (
-          ap not (eq-eqb (form s) 1 (head .form-is)),
-          (
-            ap not (eq-eqb (zeroBits s) 0 (head .zeros-is)),
-            (
-              ne-eqb (others s) 0 (λ z. omega (arith, head .others-is)),
-              (
-                ne-eqb (limit s) 0 (λ z. omega (arith, head .limit-is)),
-                (ap not (eq-eqb (length s) (fileOctets (count s)) (long ∙ ap fileOctets (sym count-is))), tt),
-              ),
-            ),
-          ),
-        ),
-      )
-
-  -- ---- the addresses
-
-  address : (k : ℕ) → k < length ms → bits s (fileOctets k * 8) 48 ≡ getD ms k 0
-  address k h =
-      bits-octets s (fileOctets k) 6 small (omega (arith, long))
-      ∙ ap (λ (l : List ℕ). number (take 6 l)) (drop-append-add (octets 2 headNumber) (addressOctets ms) (6 * k))
-      ∙ address-at ms k h (g .good k h .fits)
-
-  first-addresses : (k : ℕ) → k ≤ length ms → addressesOf s k ≡ take k ms
-  unfolding addressesOf
-  first-addresses zero h = refl
-  first-addresses (suc k) h =
-      ap (λ (l : List ℕ). l ++ (bits s (fileOctets k * 8) 48 ∷ [])) (first-addresses k (omega arith))
-      ∙ ap (λ (a : ℕ). take k ms ++ (a ∷ [])) (address k h)
-      ∙ sym (take-suc ms k 0 h)
+  fits : (i : ℕ) → getD ms i 0 < 2 ^ 48
+  fits i = go (ltb i (length ms)) refl
+    where
+      go : (b : Bool) → ltb i (length ms) ≡ b → getD ms i 0 < 2 ^ 48
+      go true e = g .good i (ltb-true i (length ms) e) .fits
+      go false e = rw (List·getD-eq-default ms 0 (ltb-false i (length ms) e)) (omega arith)
 
   addresses : addressesOf s (count s) ≡ ms
-  addresses = ap (addressesOf s) count-is ∙ first-addresses (length ms) (omega arith) ∙ take-length ms
+  addresses = written.addresses 1 r 1 ms cs one same (g .some-members) (g .most-members) retries first fits
+
+  all-open : (i : ℕ) → i < length ms → getD cs i 0 ≡ allChannels
+  all-open i h = getD-replicate (length ms) i allChannels 0 h
+
+  small : (i : ℕ) → getD cs i 0 < 256
+  small i = go (ltb i (length ms)) refl
+    where
+      go : (b : Bool) → ltb i (length ms) ≡ b → getD cs i 0 < 256
+      go true e = rw (all-open i (ltb-true i (length ms) e)) (omega arith)
+      go false e =
+          let out : length cs ≤ i = rw (← same) (ltb-false i (length ms) e) in
+          rw (List·getD-eq-default cs 0 out) (omega arith)
+
+  channels : channelsOf s (count s) ≡ cs
+  channels = written.channels 1 r 1 ms cs one same (g .some-members) (g .most-members) retries first small (λ _ i h. all-open i h)
+
+  version-is : version s ≡ 1
+  version-is = written.version-is 1 r 1 ms cs one same (g .some-members) (g .most-members) retries first (λ _. refl)
+
+  head-passes : headRefusal s ≡ 0
+  head-passes = written.head-passes 1 r 1 ms cs one same (g .some-members) (g .most-members) retries first refl refl (g .some-retry)
 
   address-passes : (i : ℕ) → i < length ms → addressRefusal (take i ms) (getD ms i 0) ≡ 0
   unfolding addressRefusal badAddress
@@ -174,7 +124,10 @@ module _ (r : ℕ) (ms : List ℕ) (g : GoodRing r ms) where
   pub file-reads : readRing (fileWith r ms) ≡ record { number = 0; ring = ringWith r ms }
   unfolding ring.ringOf
   file-reads =
+      let f : ring.form s ≡ 1 = head .form-is in
       let n : count s ≡ length ms = count-is in
       let l : limit s ≡ r = head .limit-is in
+      let v : version s ≡ 1 = version-is in
       let m : addressesOf s (count s) ≡ ms = addresses in
-      ap readRing file-is ∙ read-good s passes ∙ (λ i. record { number = 0; ring = record { n = n i; limit = l i; addresses = filled (m i) } })
+      let c : channelsOf s (count s) ≡ cs = channels in
+      ap readRing file-is ∙ read-good s passes ∙ (λ i. record { number = 0; ring = record { form = f i; n = n i; limit = l i; version = v i; addresses = filled (m i); channels = filled (c i) } })

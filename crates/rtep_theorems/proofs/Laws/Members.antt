@@ -11,22 +11,11 @@ use lib.Dec.{eqb}
 use lib.ListN.{length, take, drop, getD}
 use lib.Seq.{length-take-le, getD-take}
 use Rattle.codec.specs.Order.{firstOf}
-use Rattle.codec.specs.Bits.{bits}
-use Rattle.codec.specs.Ring.{others, fileOctets, count, limit, addressesOf, badAddress, position, addressTests, addressesTests, addressRefusal, addressesRefusal, ringRefusal}
+use Rattle.codec.specs.Ring.{others, count, limit, addressesOf, badAddress, position, addressTests, addressesTests, addressRefusal, addressesRefusal, ringRefusal}
 use Rattle.codec.proofs.Laws.Order.{none-holds}
 use Rattle.codec.proofs.Laws.Bits.{bits-below}
-use Rattle.codec.proofs.Laws.Ring.{HeadGood, head-good, head-passed, refused-late, addresses-more, addresses-here, length-addresses}
+use Rattle.codec.proofs.Laws.Ring.{HeadGood, addresses-fit, head-good, head-passed, refused-late, addresses-more, addresses-here, length-addresses}
 use Rattle.rtep_theorems.specs.Rings.{GoodRing}
-use Rattle.rtep_theorems.proofs.Laws.Files.{below-append}
-
-addresses-fit : (file : List ℕ) (n i : ℕ) → getD (addressesOf file n) i 0 < 2 ^ 48
-unfolding addressesOf
-addresses-fit file zero i = omega arith
-addresses-fit file (suc n) i = below-append (2 ^ 48) (addressesOf file n) (bits file (fileOctets n * 8) 48 ∷ []) (addresses-fit file n) one i
-  where
-    one : (i : ℕ) → getD (bits file (fileOctets n * 8) 48 ∷ []) i 0 < 2 ^ 48
-    one zero = bits-below file (fileOctets n * 8) 48
-    one (suc i) = omega arith
 
 -- a member has its place
 found : (ms : List ℕ) (a j : ℕ) → j < length ms → getD ms j 0 ≡ a → position ms a < length ms

@@ -7,8 +7,8 @@ use lib.ListN.{length}
 use Rattle.codec.proofs.Theorems.OneAnswer.{one-answer}
 use Rattle.packet_codec.specs.Packet.{kept}
 use Rattle.station.specs.declared.station.Answer.{Answer}
-use Rattle.driver_calls.specs.Calls.{Making, Sending, Starting, Hearing, Timing, ringIn, requestOf, Queueing, Taking}
-use Rattle.rtep.specs.Told.{RingTold, ReadTold, madeOf, WriteTold}
+use Rattle.driver_calls.specs.Calls.{Making, Sending, Starting, Hearing, Timing, ringKept, requestOf, Queueing, Taking}
+use Rattle.rtep.specs.Told.{RingTold, FormTold, ReadTold, madeOf, WriteTold}
 use Rattle.rtep_theorems.specs.Outcomes.{OneAnswer, Telling, Writing, Made, Sent, Heard, Queued, Taken}
 
 -- a buffer that is kept or new by the number
@@ -22,6 +22,15 @@ rtep-ring-one-answer file told a b p q =
     let n : a .number ≡ b .number = one-answer (p .answer) (q .answer) in
     let t : a .told ≡ b .told = one-buffer _ _ n (p .told-is) (q .told-is) in
     λ i. record { number = n i; told = t i }
+
+-- to form 1 and to form 2
+pub rtep-to-form-one-answer : (asked : ℕ) (file out told : List ℕ)
+    → OneAnswer (λ (o : Writing). FormTold asked file out told (o .number) (o .out) (o .told))
+rtep-to-form-one-answer asked file out told a b p q =
+    let n : a .number ≡ b .number = one-answer (p .answer) (q .answer) in
+    let s : a .out ≡ b .out = one-buffer _ _ n (p .out-is) (q .out-is) in
+    let t : a .told ≡ b .told = one-buffer _ _ n (p .told-is) (q .told-is) in
+    λ i. record { number = n i; out = s i; told = t i }
 
 pub rtep-read-one-answer : (ring packet told : List ℕ) → OneAnswer (λ (o : Telling). ReadTold ring packet told (o .number) (o .told))
 rtep-read-one-answer ring packet told a b p q =
@@ -72,7 +81,7 @@ rtep-frame-one-answer rec store from to packet out told a b p q =
     λ i. record { number = e i .number; rec = e i .rec; store = s i; out = e i .out; told = e i .told }
 
 pub rtep-queue-one-answer : (rec store : List ℕ) (to priority channel : ℕ) (payload : List ℕ)
-    → OneAnswer (λ (o : Queued). Queueing rec store (requestOf (ringIn rec) to priority channel (length payload)) payload (o .number) (o .rec) (o .store))
+    → OneAnswer (λ (o : Queued). Queueing rec store (requestOf (ringKept rec) to priority channel (length payload)) payload (o .number) (o .rec) (o .store))
 rtep-queue-one-answer rec store to priority channel payload a b p q =
     let n : a .number ≡ b .number = one-answer (p .answer) (q .answer) in
     let s : a .rec ≡ b .rec = one-buffer _ _ n (p .record-is) (q .record-is) in

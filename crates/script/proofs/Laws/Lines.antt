@@ -179,7 +179,7 @@ one-value v (a ∷ []) h e = sym (number-value a (first-number a [] e))
 one-value v (a ∷ b ∷ ws) h e = absurd (omega arith)
 
 abbrev queueOf : List ℕ → Line
-queueOf l = Queue (getD l 0 0) (record { to = getD l 1 0; priority = getD l 2 0; channel = getD l 3 0; length = getD l 4 0 })
+queueOf l = Queue (getD l 0 0) (record { to = getD l 1 0; priority = getD l 2 0; channel = getD l 3 0; length = getD l 4 0; listens = true })
 
 five-values : (v : List ℕ) (ws : List (List ℕ)) → length ws ≡ 5 → every isNumber ws ≡ true
     → Queue (valueAt (v ∷ ws) 1) (requestIn (v ∷ ws)) ≡ queueOf (joinedAll noNumbers ws .values)

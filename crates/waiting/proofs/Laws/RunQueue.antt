@@ -57,6 +57,7 @@ pub record Proper (n p : ℕ) (r : Request) : Type 0 where
   pub some : 1 ≤ r .priority
   pub most : r .priority ≤ 255
   pub channel-fits : r .channel ≤ 7
+  pub hears : r .listens ≡ true
   pub length-fits : r .length ≤ 1492
 
 proper-passes : (n p : ℕ) (alive : Bool) (len : ℕ) (r : Request) → alive ≡ true → len < 16 → Proper n p r
@@ -64,7 +65,7 @@ proper-passes : (n p : ℕ) (alive : Bool) (len : ℕ) (r : Request) → alive �
 unfolding queueRefusal
 proper-passes n p alive len r e room g =
     first-passed 0
-    ((eqb (r .priority) 0, 14) ∷ (ltb 255 (r .priority), 14) ∷ (leb n (r .to), 15) ∷ (eqb (r .to) p, 15) ∷ (not alive, 16) ∷ (ltb 7 (r .channel), 17) ∷ (ltb 1492 (r .length), 18) ∷ (leb 16 len, 19) ∷ []) (
+    ((eqb (r .priority) 0, 14) ∷ (ltb 255 (r .priority), 14) ∷ (leb n (r .to), 15) ∷ (eqb (r .to) p, 15) ∷ (not alive, 16) ∷ (ltb 7 (r .channel), 17) ∷ (not (r .listens), 28) ∷ (ltb 1492 (r .length), 18) ∷ (leb 16 len, 19) ∷ []) (
       ne-eqb (r .priority) 0 (λ z. omega (arith, g .some)),
       (
         le-ltb 255 (r .priority) (g .most),
@@ -72,7 +73,7 @@ proper-passes n p alive len r e room g =
           lt-leb n (r .to) (g .member),
           (
             ne-eqb (r .to) p (g .another),
-            (ap not e, (le-ltb 7 (r .channel) (g .channel-fits), (le-ltb 1492 (r .length) (g .length-fits), (lt-leb 16 len room, tt)))),
+            (ap not e, (le-ltb 7 (r .channel) (g .channel-fits), (ap not (g .hears), (le-ltb 1492 (r .length) (g .length-fits), (lt-leb 16 len room, tt))))),
           ),
         ),
       ),

@@ -78,7 +78,7 @@ module _ (n limit : ℕ) (three : 3 ≤ n) (most : n ≤ 64) (low : 1 ≤ limit)
 
   proper-foreign : Proper n (n - 1) foreignRequest
   proper-foreign =
-      record { member = omega arith; another = λ e. omega arith; some = omega arith; most = omega arith; channel-fits = omega arith; length-fits = omega arith }
+      record { member = omega arith; another = λ e. omega arith; some = omega arith; most = omega arith; channel-fits = omega arith; hears = refl; length-fits = omega arith }
 
   ready-quiet : Quiet limit (ready n limit)
   ready-quiet = quiet-queue (ringWith n limit) (quiet-start n limit two most low high) (n - 1) foreignRequest
@@ -104,7 +104,7 @@ module _ (n limit : ℕ) (three : 3 ≤ n) (most : n ≤ 64) (low : 1 ≤ limit)
 
   proper-its : Proper n 0 itsRequest
   proper-its =
-      record { member = omega arith; another = λ e. omega arith; some = omega arith; most = omega arith; channel-fits = omega arith; length-fits = omega arith }
+      record { member = omega arith; another = λ e. omega arith; some = omega arith; most = omega arith; channel-fits = omega arith; hears = refl; length-fits = omega arith }
 
   pub its-place : lowestFree (all (stationAt (ready n limit) 0 .sends)) ≡ 0
   its-place = unused-place first-unused

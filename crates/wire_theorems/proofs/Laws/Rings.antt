@@ -24,7 +24,7 @@ ring-after rec rec′ r a h k e = ap (λ (x : List ℕ). readRecord x .ring) e �
     go true = anew-reads rec (a .station) h (k .0) (k .1) .ring
     go false = refl
 
-ring-made : {rec : List ℕ} (h : Held rec) → readRecord rec .ring ≡ readRing (madeOf h) .ring
+pub ring-made : {rec : List ℕ} (h : Held rec) → readRecord rec .ring ≡ readRing (madeOf h) .ring
 ring-made (by-make rec file own rec′ m) = made-reads rec file own rec′ m .reads .ring
 ring-made (by-start rec out told r rec′ out′ told′ p m) =
     let h = held-sure p in

@@ -181,9 +181,9 @@ fn main() {
     }
     println!("highest ratio of a packet: {highest:.2}");
 
-    for size in [3, 64] {
+    for (form, size) in [(1, 3), (1, 64), (2, 3), (2, 64)] {
         let files: Vec<Vec<u8>> = (0..INPUTS)
-            .map(|_| model::ring_file(1, size as u64 - 1, 2, 0, &addresses(random, size)))
+            .map(|_| model::Ring { form, ..model::Ring::plain(2, addresses(random, size)) }.file())
             .collect();
         let read_library = |file: &[u8], told: &mut [u64; 66]| rtep::ring(black_box(file), told);
         let read_plain = |file: &[u8], told: &mut [u64; 66]| {
@@ -198,7 +198,7 @@ fn main() {
         }
         let (mut told, mut also_told) = ([0; 66], [0; 66]);
         row(
-            "read ring file",
+            if form == 1 { "read ring file" } else { "read ring file of form 2" },
             size,
             |place| {
                 black_box(read_library(&files[place], black_box(&mut told)));

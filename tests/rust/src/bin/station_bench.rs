@@ -18,11 +18,11 @@ const ROUNDS: usize = 4000;
 const CALLS: usize = 32;
 
 // Where the record has what is set here by hand.
-const OWN: usize = 386;
-const STATE: usize = 387;
-const LIVE: usize = 413;
-const SEND: usize = 477;
-const RECEIVE: usize = 574;
+const OWN: usize = 450;
+const STATE: usize = 451;
+const LIVE: usize = 477;
+const SEND: usize = 541;
+const RECEIVE: usize = 638;
 const IDLE: u8 = 1;
 
 #[derive(Clone)]

@@ -12,7 +12,7 @@ pub struct Ring {
 impl Ring {
     /// Stations start from N−1 down to 0; only station 0 sends. Member i has address i+1; R is 1.
     pub fn start(members: usize) -> Ring {
-        let addresses = Addresses { retry_limit: 1, addresses: (1..=members as u64).collect() };
+        let addresses = Addresses::plain(1, (1..=members as u64).collect());
         let mut stations: Vec<Station> =
             (0..members).map(|own| Station::new(addresses.clone(), own)).collect();
         let sent = stations.iter_mut().rev().filter_map(|station| station.start().frame).last();

@@ -8,7 +8,7 @@
 use super::{get, put, Packet, Ring};
 
 /// Octets of a record.
-pub const RECORD: usize = 671;
+pub const RECORD: usize = 735;
 /// Octets of a store: 16 send places, then 16 receive places.
 pub const STORE: usize = 2 * MESSAGES * PLACE;
 /// Octets of a place.
@@ -18,7 +18,7 @@ pub const OUT: usize = 1500;
 /// Messages of a list at the most.
 pub const MESSAGES: usize = 16;
 /// Octets of a ring file at the most: as many has a record for it.
-const FILE: usize = 386;
+const FILE: usize = 450;
 
 #[derive(Debug, Clone, Copy, PartialEq, Eq)]
 pub enum State {
@@ -362,6 +362,7 @@ impl Station {
             (other.is_none(), 15),
             (other.is_some_and(|to| !self.live[to]), 16),
             (channel > 7, 17),
+            (other.is_some_and(|to| channel < 8 && !self.ring.open[to][channel]), 28),
             (length > PLACE, 18),
             (self.send.len() == MESSAGES, 19),
         ];
@@ -533,7 +534,8 @@ impl Station {
             return None;
         }
         let members = (get(record, 0, 2) >> 6 & 63) as usize + 1;
-        let file = &record[..2 + 6 * members];
+        let member_octets = if record[0] >> 4 == 2 { 7 } else { 6 };
+        let file = &record[..2 + member_octets * members];
         let ring = super::read_ring(file).ok()?;
         let mut fields = Fields { octets: record, at: FILE };
         let own = fields.next(1) as usize;

@@ -13,6 +13,8 @@ pub struct Ring {
     pub retry_limit: u8,
     /// In ring order, then zeros.
     pub addresses: [u64; 64],
+    /// Of each member, channel 0 in the highest bit.
+    pub open: [u8; 64],
 }
 
 /// The number of six octets.
@@ -30,11 +32,15 @@ impl Ring {
         let heading = u16::from_be_bytes(*heading);
         let members = usize::from(heading >> 6 & 63) + 1;
         let retry_limit = (heading >> 2 & 15) as u8;
-        if heading >> 12 != 1 {
+        let form = heading >> 12;
+        if form != 1 && form != 2 {
             return Err(2);
         }
-        if heading & 3 != 0 {
+        if form == 1 && heading & 3 != 0 {
             return Err(3);
+        }
+        if form == 2 && matches!(heading & 3, 0 | 3) {
+            return Err(27);
         }
         if members == 1 {
             return Err(4);
@@ -42,21 +48,35 @@ impl Ring {
         if retry_limit == 0 {
             return Err(5);
         }
-        if rest.len() != 6 * members {
+        let mut ring = Ring { members, retry_limit, addresses: [0; 64], open: [255; 64] };
+        if form == 1 {
+            ring.read_members::<6>(rest)?;
+        } else {
+            ring.read_members::<7>(rest)?;
+        }
+        Ok(ring)
+    }
+
+    /// The members behind the head, each of `OCTETS` octets: in the seventh are its open channels.
+    #[inline(always)]
+    fn read_members<const OCTETS: usize>(&mut self, rest: &[u8]) -> Result<(), u32> {
+        if rest.len() != OCTETS * self.members {
             return Err(1);
         }
-        let mut addresses = [0; 64];
-        for (place, octets) in rest.as_chunks::<6>().0.iter().enumerate() {
-            let next = address(octets);
+        for (place, octets) in rest.as_chunks::<OCTETS>().0.iter().enumerate() {
+            let next = address(octets.first_chunk().expect("six octets"));
             if next == 0 || octets[0] & 1 == 1 {
                 return Err(6);
             }
-            if addresses[..place].contains(&next) {
+            if self.addresses[..place].contains(&next) {
                 return Err(7);
             }
-            addresses[place] = next;
+            self.addresses[place] = next;
+            if let Some(open) = octets.get(6) {
+                self.open[place] = *open;
+            }
         }
-        Ok(Ring { members, retry_limit, addresses })
+        Ok(())
     }
 
     /// The position of the member with this address.

@@ -51,7 +51,7 @@ impl Ring {
 /// Member i has address i+1; R is 1.
 fn addresses(members: usize) -> Addresses {
     let address = |place: usize| if place < members { place as u64 + 1 } else { 0 };
-    Addresses { members, retry_limit: 1, addresses: std::array::from_fn(address) }
+    Addresses { members, retry_limit: 1, addresses: std::array::from_fn(address), open: [255; 64] }
 }
 
 /// A frame as the others hear it.

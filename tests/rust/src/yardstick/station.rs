@@ -10,7 +10,7 @@ use record::{Frame, Kind, State, Station};
 use rules::Answer;
 
 /// Octets of a record.
-pub const RECORD: usize = 671;
+pub const RECORD: usize = 735;
 /// Octets of a store: 16 send places, then 16 receive places.
 pub const STORE: usize = 2 * MESSAGES * PLACE;
 /// Octets of a place.

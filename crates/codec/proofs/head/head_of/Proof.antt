@@ -105,7 +105,7 @@ module _ {M : Type 1} (𝓤 : URA M) (H : Heap 𝓤) (A : Atoms 𝓤) (W : Given
   found = headBits (now file)
 
   abbrev mach : Val
-  mach = vstruct (vcons (vint w64 (found .form)) (vcons (vint w64 (found .others)) (vcons (vint w64 (found .limit)) (vcons (vint w64 (found .zeros)) vnil))))
+  mach = vstruct (vcons (vint w64 (found .form)) (vcons (vint w64 (found .others)) (vcons (vint w64 (found .limit)) (vcons (vint w64 (found .last)) vnil))))
 
   abbrev vals : List Val × Unit {0}
   vals = (v ∷ [], tt)

@@ -1,6 +1,6 @@
 -- `ring::read_into` meets its contract: a head that passes says what the calls require, and the refusals are those of the one order.
 use mathlib.Core.Path.{_≡_, sym, ap, _∙_}
-use Prim.Native.Nat.{ℕ}
+use Prim.Native.Nat.{ℕ, _≤_}
 use native.Mathlib.Omega.{arith}
 use borrow.Author.Needs.{needs}
 use lib.ListN.{length}
@@ -50,7 +50,13 @@ counted c = c .count .ensures ∙ ap countOf (c .before .before .before .head-of
 addresses-into-requires : tie.Need-addresses-into-requires
 addresses-into-requires c κs =
     let k = c .before in
-    omega (arith, good (k .before), counted k, bits-below (k .before .before .before .before .before .before .before .args .file .now) 4 6)
+    let file = k .before .before .before .before .before .before .before .args .file .now in
+    let n : k .count .result ≤ 64 = omega (arith, counted k, bits-below file 4 6) in (
+      n,
+      omega (arith, n, k .before .before .before .before .before .before .before .pre),
+      ap (λ (h : HeadBits). h .form) (k .before .before .before .head-of .ensures),
+      rw (counted k, good (k .before) .sized) (omega arith),
+    )
 
 members-requires : tie.Need-members-requires
 members-requires c κs = search needs
@@ -68,7 +74,7 @@ returns-3 c =
     let e = k .before in
     let file = e .before .before .before .before .before .before .args .file .now in
     let l = e .before .before .before .before .before .before .args .addresses .now in (
-      read-steps file l (k .count .result) (c .addresses-refusal .result) (a .addresses-into .last .1 .1 .0)
+      read-steps file l (k .count .result) (c .addresses-refusal .result) (a .addresses-into .last .1 .1 .1 .0)
           (sym (early (e .before)) ∙ e .if2 .left)
           (counted k)
           (a .addresses-into .ensures)

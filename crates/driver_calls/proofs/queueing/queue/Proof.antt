@@ -1,14 +1,12 @@
 -- `queueing::queue` meets its contract: at each return the tests that led there say which number it is, and what is left. Assumes nothing.
 use mathlib.Core.Path.{_≡_}
 use mathlib.Core.Bool.{false}
-use mathlib.Core.List.{List}
-use Prim.Native.Nat.{ℕ}
 use native.Mathlib.Omega.{arith}
 use lib.ListN.{length}
 use Rattle.records.proofs.Laws.Load.{Held, none-held, opened-held}
-use Rattle.driver_calls.specs.Calls.{badStore, requestOf}
+use Rattle.driver_calls.specs.Calls.{badStore}
 use Rattle.driver_calls.proofs.Laws.Calls.{refused-9, refused-35, refused-own, done}
-use Rattle.driver_calls.proofs.Laws.Handing.{store-bad, store-good, queue-answer, not-queued, all-queued}
+use Rattle.driver_calls.proofs.Laws.Handing.{store-bad, store-good, request-fits, queue-answer, not-queued, all-queued}
 use borrow.Author.Needs.{needs}
 use Rattle.driver_calls.proofs.queueing.queue.Statement.{statement}
 use Rattle.driver_calls.proofs.queueing.queue.Tie as tie
@@ -47,7 +45,7 @@ members-requires : tie.Need-members-requires
 members-requires c κs = search needs
 
 request-of-requires : tie.Need-request-of-requires
-request-of-requires c κs = search needs
+request-of-requires c κs = request-fits (held-at (c .before .before .before .before)) _ (c .members .ensures)
 
 queue-requires : tie.Need-queue-requires
 queue-requires c κs = search needs
@@ -57,14 +55,14 @@ same-length-2 c = search needs
 
 returns-3 : tie.Need-returns-3
 returns-3 c =
-    let e = c .before .before .before .before .before .before .before in
+    let e = c .before .before .before .before .before .before .before .before in
     let a = e .before .before .before .before .before .before .before .before .before .before .args in
-    let b = queue-answer (held-at e) (λ (ring : List ℕ). requestOf ring (a .to) (a .priority) (a .channel) (length (a .payload .now))) _ _ _ (c .before .before .before .before .members .ensures) (c .before .before .before .request-of .ensures) (c .before .before .queue .ensures) in
+    let b = queue-answer (held-at e) (a .to) (a .priority) (a .channel) (length (a .payload .now)) _ _ _ (c .before .before .before .before .members .ensures) (c .before .before .before .request-of .ensures) (c .before .before .queue .ensures) in
     not-queued (refused-own (good-buffers-at (e .before .before .before .before .before .before)) (held-at e .ok) _ b (c .if3 .taken))
 
 save-requires : tie.Need-save-requires
 save-requires c κs =
-    let h = held-at (c .before .before .before .before .before .before .before .before .before) .sized in
+    let h = held-at (c .before .before .before .before .before .before .before .before .before .before) .sized in
     omega (arith, h)
 
 put-queued-requires : tie.Need-put-queued-requires
@@ -78,9 +76,9 @@ same-length-4 c = search needs
 
 returns-4 : tie.Need-returns-4
 returns-4 c =
-    let e = c .before .before .before .before .before .before .before .before .before .before .before .before .before .before .before .before in
+    let e = c .before .before .before .before .before .before .before .before .before .before .before .before .before .before .before .before .before in
     let a = e .before .before .before .before .before .before .before .before .before .before .args in
-    let b = queue-answer (held-at e) (λ (ring : List ℕ). requestOf ring (a .to) (a .priority) (a .channel) (length (a .payload .now))) _ _ _ (c .before .before .before .before .before .before .before .before .before .before .before .before .before .members .ensures) (c .before .before .before .before .before .before .before .before .before .before .before .before .request-of .ensures) (c .before .before .before .before .before .before .before .before .before .before .before .queue .ensures) in
+    let b = queue-answer (held-at e) (a .to) (a .priority) (a .channel) (length (a .payload .now)) _ _ _ (c .before .before .before .before .before .before .before .before .before .before .before .before .before .members .ensures) (c .before .before .before .before .before .before .before .before .before .before .before .before .request-of .ensures) (c .before .before .before .before .before .before .before .before .before .before .before .queue .ensures) in
     all-queued _ _ _ (done (good-buffers-at (e .before .before .before .before .before .before)) (held-at e .ok) _ b (c .before .before .before .before .before .before .before .before .before .if3 .left)) b (c .before .before .before .before .before .before .save .ensures) (c .before .before .put-queued .ensures)
 
 pub queue-spec : {M : Type 1} → statement M

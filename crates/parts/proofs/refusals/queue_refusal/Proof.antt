@@ -30,15 +30,19 @@ returns-6 c = rw (ne-eqb _ _ (c .before .before .before .before .before .before 
 
 returns-7 : tie.Need-returns-7
 unfolding queueRefusal
-returns-7 c = rw (ne-eqb _ _ (c .before .before .before .before .before .before .before .before .before .before .before .if1 .left), le-ltb _ _ (c .before .before .before .before .before .before .before .before .before .if2 .left), lt-leb _ _ (c .before .before .before .before .before .before .before .if3 .left), ne-eqb _ _ (c .before .before .before .before .before .if4 .left), c .before .before .before .before .if5 .left, le-ltb _ _ (c .before .before .if6 .left), lt-ltb _ _ (c .if7 .taken))
+returns-7 c = rw (ne-eqb _ _ (c .before .before .before .before .before .before .before .before .before .before .before .if1 .left), le-ltb _ _ (c .before .before .before .before .before .before .before .before .before .if2 .left), lt-leb _ _ (c .before .before .before .before .before .before .before .if3 .left), ne-eqb _ _ (c .before .before .before .before .before .if4 .left), c .before .before .before .before .if5 .left, le-ltb _ _ (c .before .before .if6 .left), c .if7 .taken)
 
 returns-8 : tie.Need-returns-8
 unfolding queueRefusal
-returns-8 c = rw (ne-eqb _ _ (c .before .before .before .before .before .before .before .before .before .before .before .before .if1 .left), le-ltb _ _ (c .before .before .before .before .before .before .before .before .before .before .if2 .left), lt-leb _ _ (c .before .before .before .before .before .before .before .before .if3 .left), ne-eqb _ _ (c .before .before .before .before .before .before .if4 .left), c .before .before .before .before .before .if5 .left, le-ltb _ _ (c .before .before .before .if6 .left), le-ltb _ _ (c .before .if7 .left), le-leb _ _ (c .if8 .taken))
+returns-8 c = rw (ne-eqb _ _ (c .before .before .before .before .before .before .before .before .before .before .before .before .before .if1 .left), le-ltb _ _ (c .before .before .before .before .before .before .before .before .before .before .before .if2 .left), lt-leb _ _ (c .before .before .before .before .before .before .before .before .before .if3 .left), ne-eqb _ _ (c .before .before .before .before .before .before .before .if4 .left), c .before .before .before .before .before .before .if5 .left, le-ltb _ _ (c .before .before .before .before .if6 .left), c .before .before .if7 .left, lt-ltb _ _ (c .if8 .taken))
 
 returns-9 : tie.Need-returns-9
 unfolding queueRefusal
-returns-9 c = rw (ne-eqb _ _ (c .before .before .before .before .before .before .before .before .before .before .before .before .if1 .left), le-ltb _ _ (c .before .before .before .before .before .before .before .before .before .before .if2 .left), lt-leb _ _ (c .before .before .before .before .before .before .before .before .if3 .left), ne-eqb _ _ (c .before .before .before .before .before .before .if4 .left), c .before .before .before .before .before .if5 .left, le-ltb _ _ (c .before .before .before .if6 .left), le-ltb _ _ (c .before .if7 .left), lt-leb _ _ (c .if8 .left))
+returns-9 c = rw (ne-eqb _ _ (c .before .before .before .before .before .before .before .before .before .before .before .before .before .before .if1 .left), le-ltb _ _ (c .before .before .before .before .before .before .before .before .before .before .before .before .if2 .left), lt-leb _ _ (c .before .before .before .before .before .before .before .before .before .before .if3 .left), ne-eqb _ _ (c .before .before .before .before .before .before .before .before .if4 .left), c .before .before .before .before .before .before .before .if5 .left, le-ltb _ _ (c .before .before .before .before .before .if6 .left), c .before .before .before .if7 .left, le-ltb _ _ (c .before .if8 .left), le-leb _ _ (c .if9 .taken))
+
+returns-10 : tie.Need-returns-10
+unfolding queueRefusal
+returns-10 c = rw (ne-eqb _ _ (c .before .before .before .before .before .before .before .before .before .before .before .before .before .before .if1 .left), le-ltb _ _ (c .before .before .before .before .before .before .before .before .before .before .before .before .if2 .left), lt-leb _ _ (c .before .before .before .before .before .before .before .before .before .before .if3 .left), ne-eqb _ _ (c .before .before .before .before .before .before .before .before .if4 .left), c .before .before .before .before .before .before .before .if5 .left, le-ltb _ _ (c .before .before .before .before .before .if6 .left), c .before .before .before .if7 .left, le-ltb _ _ (c .before .if8 .left), lt-leb _ _ (c .if9 .left))
 
 pub queue-refusal-spec : {M : Type 1} → statement M
 queue-refusal-spec =
@@ -52,4 +56,5 @@ queue-refusal-spec =
     returns-6
     returns-7
     returns-8
-    returns-9)
+    returns-9
+    returns-10)

@@ -28,7 +28,7 @@ octets-requires c κs = few-others _ _ (c .head-of .ensures)
 octets-good-requires : tie.Need-octets-good-requires
 octets-good-requires c κs =
     let s = c .before .before .before .before .before .before in
-    (c .before .before .before .if1 .left, (c .before .octets .ensures ∙ ap (λ (h : HeadBits). fileOctets (countOf h)) (c .before .before .head-of .ensures), search needs))
+    (c .before .before .before .if1 .left, (c .before .octets .ensures ∙ ap (λ (h : HeadBits). fileOctets (h .form) (countOf h)) (c .before .before .head-of .ensures), search needs))
 
 new-requires-2 : tie.Need-new-requires-2
 new-requires-2 c κs = search needs

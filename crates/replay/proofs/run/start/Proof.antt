@@ -17,7 +17,7 @@ join-requires c κs = search needs
 returns : tie.Need-returns
 returns c =
     let b = c .before .before .before .before .new in
-    (first-course _ _ (b .result) _ _ (b .ensures) (c .before .before .empty .ensures) (c .before .join .ensures), refl)
+    (first-course _ _ (b .result) _ _ (b .ensures) (c .before .before .empty .ensures) (c .before .join .ensures), (refl, refl))
 
 pub start-spec : {M : Type 1} → statement M
 start-spec = tie.close (tie.spec new-requires empty-requires join-requires returns)

@@ -49,6 +49,7 @@ use Rattle.station.proofs.station.Station as T
 use Rattle.bench.proofs.Laws.Again.{LentAgain, lends-again, comes-back}
 use Rattle.capture.specs.Record.{readRecord}
 use Rattle.capture.specs.declared.record.Read.{Read}
+use Rattle.day.specs.Listening.{heardIn, askedRead}
 use Rattle.replay.specs.Running.{reading, Begins}
 use Rattle.replay.specs.Table.{wayOf, planIn, goesOn, tableIn, wayAfter, textAfter}
 use Rattle.replay.specs.declared.going.Going.{Going}
@@ -92,9 +93,9 @@ param₁ = sliceTy (tyRef (named 1) mut (pointee (u8 .written)))
 abbrev param₂ : Ty
 param₂ = sliceTy (tyRef (named 2) imm (pointee (u8 .written)))
 
--- the record at the offset of a run
+-- the record at the offset of a run, with what the ring file says of it
 abbrev readIn : List ℕ → Going → Read
-readIn cs r = readRecord (r .n) cs (r .at)
+readIn cs r = askedRead (heardIn (r .n) (r .channels)) (readRecord (r .n) cs (r .at))
 
 -- one record is done
 abbrev OneDone : Going → Read → List Station → List ℕ → Going → List Station → List ℕ → Type 0
@@ -310,8 +311,8 @@ module _ {M : Type 1} (𝓤 : URA M) (H : Heap 𝓤) (A : Atoms 𝓤) (W : Given
         land-last ! (from ! (stop !)) (store ! 21 refl (typed p w₁ is)) $
         forget ! 9 refl $ forget ! 11 refl $ forget ! 13 refl $ forget ! 15 refl $ forget ! 17 refl $ forget ! 19 refl $
         keep ! (3 ∷ 4 ∷ 0 ∷ 1 ∷ 7 ∷ 8 ∷ 9 ∷ 10 ∷ 11 ∷ 12 ∷ 13 ∷ 14 ∷ 15 ∷ 16 ∷ 17 ∷ 18 ∷ 19 ∷ 20 ∷ 21 ∷ 22 ∷ 23 ∷ 24 ∷ 25 ∷ 26 ∷ 27 ∷ 28 ∷ 29 ∷ 30 ∷ 31 ∷ 32 ∷ []) $
-        again ! Nearer At t (record { r = p; rv = w₁; ss = zs .0; out = zs .1 .0; r-is = is; holds = under-on (wayOf g) ys cs os (wayOf (t .r)) (t .ss) (t .out) (t .holds) test (readIn cs (t .r)) refl (wayOf p) (zs .0) (zs .1 .0) lz (e .0) (e .1 .0) (e .1 .1) })
-        (under-nearer (wayOf g) ys cs os (wayOf (t .r)) (t .ss) (t .out) (t .holds) test (readIn cs (t .r)) refl (wayOf p) (e .0)))))))))))))))
+        again ! Nearer At t (record { r = p; rv = w₁; ss = zs .0; out = zs .1 .0; r-is = is; holds = under-on (wayOf g) ys cs os (wayOf (t .r)) (t .ss) (t .out) (t .holds) test (readRecord (t .r .n) cs (t .r .at)) refl (wayOf p) (zs .0) (zs .1 .0) lz (e .0) (e .1 .0) (e .1 .1) })
+        (under-nearer (wayOf g) ys cs os (wayOf (t .r)) (t .ss) (t .out) (t .holds) test (readRecord (t .r .n) cs (t .r .at)) refl (wayOf p) (e .0)))))))))))))))
 
     -- the turn that leaves the loop, and the rest of the body
     ends : (t : Upto) → goesOn (wayOf (t .r)) ≡ false → Sq W (At t) (runs C Λ En mirs.turn-1 (anyQ (Turned t)))

@@ -4,17 +4,17 @@ use super::{MESSAGES, PLACE, RECORD};
 use crate::yardstick::codec::Ring;
 
 // Where the fields lie.
-const RING: usize = 386;
-const OWN: usize = 386;
-const STATE: usize = 387;
-const RETRIES: usize = 388;
-const HANDLED: usize = 389;
-const AWAITED: usize = 392;
-const LOST: usize = 405;
-const GIVEN_UP: usize = 409;
-const LIVE: usize = 413;
-const SEND: usize = 477;
-const RECEIVE: usize = 574;
+const RING: usize = 450;
+const OWN: usize = 450;
+const STATE: usize = 451;
+const RETRIES: usize = 452;
+const HANDLED: usize = 453;
+const AWAITED: usize = 456;
+const LOST: usize = 469;
+const GIVEN_UP: usize = 473;
+const LIVE: usize = 477;
+const SEND: usize = 541;
+const RECEIVE: usize = 638;
 
 const LIST: usize = 1 + 6 * MESSAGES;
 const ZEROS: [u8; RING] = [0; RING];
@@ -289,7 +289,8 @@ impl Station {
     pub fn read(record: &mut [u8]) -> Option<(&mut [u8; RECORD], Station)> {
         let record: &mut [u8; RECORD] = record.try_into().ok()?;
         let members = usize::from(u16::from_be_bytes([record[0], record[1]]) >> 6 & 63) + 1;
-        let (file, after) = record[..RING].split_at(2 + 6 * members);
+        let octets = if record[0] >> 4 == 2 { 7 } else { 6 };
+        let (file, after) = record[..RING].split_at(2 + octets * members);
         let ring = ring_of(file)?;
         if !zero(after) {
             return None;

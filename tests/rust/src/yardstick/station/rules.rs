@@ -270,6 +270,9 @@ impl Station {
         if channel > 7 {
             return Err(17);
         }
+        if self.ring.open[usize::from(to)] << channel & 0x80 == 0 {
+            return Err(28);
+        }
         if length > PLACE {
             return Err(18);
         }

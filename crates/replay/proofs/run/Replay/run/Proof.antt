@@ -12,8 +12,8 @@ turns-in-requires c κs = search needs
 
 run-in-requires : tie.Need-run-in-requires
 run-in-requires c κs =
-    let a = c .before .before .before .before .before .before .before .args in
-    let t = c .before .before .before .turns-in in
+    let a = c .before .before .before .before .before .before .before .before .args in
+    let t = c .before .before .before .before .turns-in in
     let size : length (a .self .wire .items) ≡ 64 = search length-mapped in
     call-begins (a .self) (a .capture .now) (a .out .now) (a .at) (t .result) (t .ensures) size
 
@@ -22,8 +22,8 @@ same-length c = search needs
 
 returns : tie.Need-returns
 returns c =
-    let a = c .before .before .before .before .before .before .before .before .before .before .before .before .before .args in
-    let t = c .before .before .before .before .before .before .before .before .before .turns-in in
+    let a = c .before .before .before .before .before .before .before .before .before .before .before .before .before .before .args in
+    let t = c .before .before .before .before .before .before .before .before .before .before .turns-in in
     let r = c .before .before .before .before .before .run-in in
     ran-from (a .self) (a .capture .now) (a .out .now) (a .at) (t .result) (t .ensures) (r .result .going) (r .result .stations) _ (r .ensures)
 
