@@ -1,1 +1,2 @@
 // What the rule of acknowledgement gives: theorems, no code.
+#![tactic(auto)]

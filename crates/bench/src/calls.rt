@@ -7,6 +7,7 @@ use parts::request::Request;
 
 // The bench after a queue call, and the call's number.
 #[derive(Drop)]
+#[derive(Clone, Copy)]
 pub struct Queued {
     pub bench: Bench,
     pub number: u32,

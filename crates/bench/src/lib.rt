@@ -1,4 +1,6 @@
 // The bench: a whole ring of stations on a perfect wire, and what is printed of its frames.
+#![tactic(auto)]
+
 pub mod calls;
 pub mod delivery;
 pub mod ring;

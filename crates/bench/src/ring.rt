@@ -7,6 +7,7 @@ use station::station::Station;
 
 // The frame on the wire, with its sender and its addressee.
 #[derive(Drop)]
+#[derive(Clone, Copy)]
 pub struct Wire {
     pub from: u8,
     pub sent: Dispatch,
@@ -14,6 +15,7 @@ pub struct Wire {
 
 // A ring of `n` stations, one for each member; the table has room for 64.
 #[derive(Drop)]
+#[derive(Clone, Copy)]
 pub struct Bench {
     pub n: u8,
     pub stations: [Station; 64],

@@ -7,6 +7,7 @@ use parts::frame::{Frame, Whom};
 
 // T for a token, G for a transmit token, I for information.
 #[derive(Drop)]
+#[derive(Clone, Copy)]
 pub enum Kind {
     T,
     G,
@@ -14,6 +15,7 @@ pub enum Kind {
 }
 
 #[derive(Drop)]
+#[derive(Clone, Copy)]
 pub struct Row {
     pub number: u16,
     pub kind: Kind,

@@ -8,6 +8,7 @@ use crate::table::Going;
 
 // The bench after some steps, the end of what is printed, and how many steps were done.
 #[derive(Drop)]
+#[derive(Clone, Copy)]
 pub struct Ran {
     pub bench: Bench,
     pub used: usize,

@@ -20,6 +20,7 @@ use station::station::{Station, Turn};
 // A frame that is handed round a ring of `n`, with `m` records in the table; `quiet` where it names no failing station, `lost` where
 // its addressee does not hear it.
 #[derive(Drop)]
+#[derive(Clone, Copy)]
 pub struct Handing {
     pub n: u8,
     pub m: usize,
@@ -32,6 +33,7 @@ pub struct Handing {
 
 // A run in progress: `k` of `most` steps are done, and what they print ends at `used`.
 #[derive(Drop)]
+#[derive(Clone, Copy)]
 pub struct Going {
     pub n: u8,
     pub wire: Wire,
@@ -42,6 +44,7 @@ pub struct Going {
 
 // What a run leaves.
 #[derive(Drop)]
+#[derive(Clone, Copy)]
 pub struct Stepped {
     pub stations: [Station; 64],
     pub wire: Wire,
@@ -50,6 +53,7 @@ pub struct Stepped {
 
 // The table after a queue call, and the call's number.
 #[derive(Drop)]
+#[derive(Clone, Copy)]
 pub struct QueuedIn {
     pub stations: [Station; 64],
     pub number: u32,

@@ -1,1 +1,2 @@
 // What holds of every bench: theorems, no code.
+#![tactic(auto)]

@@ -13,6 +13,7 @@ pub const MOST: usize = 60000;
 
 // The fields of a record, in their order.
 #[derive(Drop)]
+#[derive(Clone, Copy)]
 pub struct Fields {
     pub kind: usize,
     pub station: usize,
@@ -24,6 +25,7 @@ pub struct Fields {
 }
 
 #[derive(Drop)]
+#[derive(Clone, Copy)]
 pub enum Event {
     Delivered,
     LostForAddressee,
@@ -34,6 +36,7 @@ pub enum Event {
 
 // What reading at an offset gives: an event comes with the offset of the next record.
 #[derive(Drop)]
+#[derive(Clone, Copy)]
 pub enum Read {
     End,
     Refused(u32),

@@ -1,5 +1,7 @@
 // Runs the page's cases that are not in the proved set: the calls of a script on station 0 of a ring of four, R = 1. A line that is a
 // call is printed with its answer, any other as it is.
+#![tactic(auto)]
+
 use libc::{STDIN_FILENO, STDOUT_FILENO};
 use parts::frame::Whom;
 use parts::request::Request;

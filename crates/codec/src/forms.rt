@@ -10,6 +10,7 @@ use crate::ring::{members, read_into};
 
 // The refusal, or 0 and how many octets the file has.
 #[derive(Drop)]
+#[derive(Clone, Copy)]
 pub struct Formed {
     pub number: u32,
     pub octets: usize,

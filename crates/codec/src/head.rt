@@ -27,6 +27,7 @@ pub fn file_octets(form: u64, n: usize) -> usize
 
 // The form number, N − 1, the retry limit and the last two bits: zero in form 1, the rule version in form 2.
 #[derive(Drop)]
+#[derive(Clone, Copy)]
 pub struct HeadBits {
     pub form: u64,
     pub others: u64,

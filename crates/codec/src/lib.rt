@@ -1,4 +1,6 @@
 // The foot of the codec: numbers in octets and bits, and the ring file.
+#![tactic(auto)]
+
 pub mod bits;
 pub mod channels;
 pub mod forms;

@@ -10,6 +10,7 @@ use station::station::{Answer, Station};
 
 // A timer says whether the wire has room.
 #[derive(Drop)]
+#[derive(Clone, Copy)]
 pub enum Call {
     NoCall,
     TimerCall(bool),
@@ -18,6 +19,7 @@ pub enum Call {
 
 // What a call tells: its number, the frame to send, the station newly struck.
 #[derive(Drop)]
+#[derive(Clone, Copy)]
 pub struct Told {
     pub number: u32,
     pub sent: Dispatch,
@@ -25,6 +27,7 @@ pub struct Told {
 }
 
 #[derive(Drop)]
+#[derive(Clone, Copy)]
 pub struct Answered {
     pub station: Station,
     pub told: Told,
@@ -32,6 +35,7 @@ pub struct Answered {
 
 // The station that a call leaves, and the call's number.
 #[derive(Drop)]
+#[derive(Clone, Copy)]
 pub struct Kept {
     pub station: Station,
     pub number: u32,

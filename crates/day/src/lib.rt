@@ -1,4 +1,6 @@
 // A recorded day record by record: what each asks for, does and prints.
+#![tactic(auto)]
+
 pub mod calls;
 pub mod listening;
 pub mod plan;

@@ -11,6 +11,7 @@ use parts::frame::{Frame, TransmitFrame};
 
 // Whom it hands a frame, and which station it calls.
 #[derive(Drop)]
+#[derive(Clone, Copy)]
 pub struct Plan {
     pub handing: Handing,
     pub place: usize,

@@ -10,6 +10,7 @@ use station::station::Station;
 
 // What a frame that is handed round brings: who newly strikes, and the addressee's new frame.
 #[derive(Drop)]
+#[derive(Clone, Copy)]
 pub struct Taken {
     pub strikers: Live,
     pub reply: Dispatch,

@@ -7,6 +7,7 @@ use parts::frame::{Dispatch, Frame, TransmitFrame};
 
 // A frame on the wire, with its sender and its addressee.
 #[derive(Drop)]
+#[derive(Clone, Copy)]
 pub struct Flying {
     pub from: u8,
     pub frame: Frame,
@@ -15,6 +16,7 @@ pub struct Flying {
 
 // The first `count` items, the oldest first.
 #[derive(Drop)]
+#[derive(Clone, Copy)]
 pub struct Frames {
     pub items: [Flying; 64],
     pub count: usize,

@@ -16,6 +16,7 @@ use wholeness::whole::whole;
 
 // A call that may send: a frame is heard from one address to another.
 #[derive(Drop)]
+#[derive(Clone, Copy)]
 pub enum Call {
     Start,
     Timer,

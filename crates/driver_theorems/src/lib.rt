@@ -1,1 +1,2 @@
 // What holds of a driver's calls: theorems, no code.
+#![tactic(auto)]

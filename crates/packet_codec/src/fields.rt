@@ -11,6 +11,7 @@ use codec::ring::is_member;
 
 // What looking at a packet's fields in their order finds: no bad one, or the place of the first.
 #[derive(Drop)]
+#[derive(Clone, Copy)]
 pub enum Looked {
     Sound,
     Bad(usize),

@@ -6,6 +6,7 @@ use codec::sizes::INFORMATION;
 
 // What token and transmit token hold. A failing station of 0 means none.
 #[derive(Drop)]
+#[derive(Clone, Copy)]
 pub struct Short {
     pub priority: u8,
     pub number: u16,
@@ -16,6 +17,7 @@ pub struct Short {
 
 // What an information packet holds before its octets.
 #[derive(Drop)]
+#[derive(Clone, Copy)]
 pub struct Head {
     pub priority: u8,
     pub number: u16,
@@ -24,6 +26,7 @@ pub struct Head {
 }
 
 #[derive(Drop)]
+#[derive(Clone, Copy)]
 pub enum Packet {
     Token(Short),
     Transmit(Short),

@@ -11,6 +11,7 @@ use codec::octets::get;
 
 // Why a packet is refused: its size, its identifier, or the first bad field or pad octet, or the length, with the offset that it is laid to.
 #[derive(Drop)]
+#[derive(Clone, Copy)]
 pub enum Refusal {
     Size,
     Identifier,
@@ -19,6 +20,7 @@ pub enum Refusal {
 
 // What reading a packet gives: the packet, or why it is refused.
 #[derive(Drop)]
+#[derive(Clone, Copy)]
 pub enum Read {
     Refused(Refusal),
     Good(Packet),

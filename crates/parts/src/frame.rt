@@ -21,12 +21,14 @@ use codec::sizes::INFORMATION;
 
 // A station, or none.
 #[derive(Drop)]
+#[derive(Clone, Copy)]
 pub enum Whom {
     Nobody,
     Member(u8),
 }
 
 #[derive(Drop)]
+#[derive(Clone, Copy)]
 pub struct TokenFrame {
     pub number: u16,
     pub priority: u8,
@@ -36,6 +38,7 @@ pub struct TokenFrame {
 }
 
 #[derive(Drop)]
+#[derive(Clone, Copy)]
 pub struct TransmitFrame {
     pub number: u16,
     pub priority: u8,
@@ -45,6 +48,7 @@ pub struct TransmitFrame {
 
 // It keeps, for its sender alone, the place of its message.
 #[derive(Drop)]
+#[derive(Clone, Copy)]
 pub struct InformationFrame {
     pub number: u16,
     pub priority: u8,
@@ -54,6 +58,7 @@ pub struct InformationFrame {
 }
 
 #[derive(Drop)]
+#[derive(Clone, Copy)]
 pub enum Frame {
     Token(TokenFrame),
     Transmit(TransmitFrame),
@@ -62,6 +67,7 @@ pub enum Frame {
 
 // A frame with its addressee, or none.
 #[derive(Drop)]
+#[derive(Clone, Copy)]
 pub enum Dispatch {
     Nothing,
     Sent { frame: Frame, to: u8 },

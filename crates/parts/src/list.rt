@@ -21,6 +21,7 @@ ghost use Rattle.parts.specs.Messages.{
 
 // A message: its other end (a ring position), and the place of its payload.
 #[derive(Drop)]
+#[derive(Clone, Copy)]
 pub struct Message {
     pub other: u8,
     pub priority: u8,
@@ -31,6 +32,7 @@ pub struct Message {
 
 // The first `len` items; the others are blank.
 #[derive(Drop)]
+#[derive(Clone, Copy)]
 pub struct Messages {
     pub items: [Message; 16],
     pub len: usize,
@@ -46,6 +48,7 @@ pub const BLANK: Message = Message {
 
 // The place of the message in flight, if one is.
 #[derive(Drop)]
+#[derive(Clone, Copy)]
 pub struct Flight {
     pub on: bool,
     pub place: u8,
@@ -53,6 +56,7 @@ pub struct Flight {
 
 // A choice among messages.
 #[derive(Drop)]
+#[derive(Clone, Copy)]
 pub enum Which {
     AnyWaiting(Flight),
     WaitingFor(Flight, u8),
@@ -63,6 +67,7 @@ pub enum Which {
 
 // The best message of those looked at, if there is one.
 #[derive(Drop)]
+#[derive(Clone, Copy)]
 pub struct Best {
     pub some: bool,
     pub message: Message,
@@ -70,6 +75,7 @@ pub struct Best {
 
 // Where the highest message of those looked at stands, and its priority; at 16 where there is none.
 #[derive(Drop)]
+#[derive(Clone, Copy)]
 pub struct Top {
     pub at: usize,
     pub priority: u8,
@@ -77,12 +83,14 @@ pub struct Top {
 
 // A flag for each place: whether a message has it.
 #[derive(Drop)]
+#[derive(Clone, Copy)]
 pub struct Places {
     pub taken: [bool; 256],
 }
 
 // A list in two parts, each in order.
 #[derive(Drop)]
+#[derive(Clone, Copy)]
 pub struct Parts {
     pub kept: Messages,
     pub gone: Messages,

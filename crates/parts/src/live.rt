@@ -5,6 +5,7 @@ ghost use Rattle.parts.specs.Live.{live_at, without, newly, seats, full, after, 
 use crate::frame::Whom;
 
 #[derive(Drop)]
+#[derive(Clone, Copy)]
 pub struct Live {
     pub on: [bool; 64],
 }

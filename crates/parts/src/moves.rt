@@ -3,6 +3,7 @@ ghost use Rattle.std.specs.Prelude.{◌≡◌};
 ghost use Rattle.parts.specs.Moves.{move_of, state_number, event_number, is_idle, is_waiting, is_excluded};
 
 #[derive(Drop)]
+#[derive(Clone, Copy)]
 pub enum State {
     Offline,
     Idle,
@@ -12,6 +13,7 @@ pub enum State {
 }
 
 #[derive(Drop)]
+#[derive(Clone, Copy)]
 pub enum Event {
     Start,
     Heard,

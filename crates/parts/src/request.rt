@@ -7,6 +7,7 @@ use crate::list::Message;
 // A message of `length` octets to the position `to`; `listens` is what the ring file says of the destination: whether it has the channel
 // open.
 #[derive(Drop)]
+#[derive(Clone, Copy)]
 pub struct Request {
     pub to: usize,
     pub priority: usize,

@@ -1,4 +1,6 @@
 // A station's record: the station between calls, in octets.
+#![tactic(auto)]
+
 pub mod fields;
 pub mod layout;
 pub mod lists;

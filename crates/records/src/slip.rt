@@ -27,6 +27,7 @@ use parts::frame::{Dispatch, Frame, InformationFrame, TokenFrame, TransmitFrame,
 
 // Kind 0 is none, 1 a token, 2 a transmit token, 3 information. A failing station is its position and one, or 0 for none.
 #[derive(Drop)]
+#[derive(Clone, Copy)]
 pub struct Slip {
     pub kind: u8,
     pub to: u8,

@@ -22,6 +22,7 @@ use parts::live::Live;
 
 // `k` of `most` turns are done, what is printed ends at `used`, the next record begins at `at`; `read` is the record in hand.
 #[derive(Drop)]
+#[derive(Clone, Copy)]
 pub struct Going {
     pub n: u8,
     pub channels: [u8; 64],

@@ -1,4 +1,6 @@
 // A recorded day on the bench: frames may be lost and timers run.
+#![tactic(auto)]
+
 pub mod begin;
 pub mod going;
 pub mod reading;

@@ -15,6 +15,7 @@ use station::station::Station;
 
 // A course, and the offset of its next record.
 #[derive(Drop)]
+#[derive(Clone, Copy)]
 pub struct Replay {
     pub n: u8,
     pub channels: [u8; 64],
@@ -27,6 +28,7 @@ pub struct Replay {
 
 // The refusal of the whole, or 0 and the course that begins.
 #[derive(Drop)]
+#[derive(Clone, Copy)]
 pub struct Begun {
     pub number: u32,
     pub replay: Replay,
@@ -34,6 +36,7 @@ pub struct Begun {
 
 // The course after some records, and the end of what is printed.
 #[derive(Drop)]
+#[derive(Clone, Copy)]
 pub struct Ran {
     pub replay: Replay,
     pub used: usize,

@@ -18,6 +18,7 @@ use station::station::Station;
 
 // The table and what is kept beside it, once a run's turns are done.
 #[derive(Drop)]
+#[derive(Clone, Copy)]
 pub struct RunIn {
     pub stations: [Station; 64],
     pub going: Going,

@@ -1,1 +1,2 @@
 // What holds of every recorded day: theorems, no code.
+#![tactic(auto)]

@@ -1,4 +1,6 @@
 // What a driver in C calls of the codec: numbers, octet slices, and fixed arrays for what is told.
+#![tactic(auto)]
+
 ghost use Rattle.std.specs.Prelude.{◌≡◌, List, [], ◌∷◌, ◌++◌, ◌+◌, ◌≤◌, ◌<◌, length};
 ghost use Rattle.codec.specs.Octets.{laid};
 ghost use Rattle.packet_codec.specs.Packet.{short_packet, packet_of};
@@ -17,6 +19,7 @@ pub mod sizes;
 
 // A packet that eight numbers give, or nothing where they are out of their ranges.
 #[derive(Drop)]
+#[derive(Clone, Copy)]
 pub enum Made {
     Nothing,
     Packet(Packet),

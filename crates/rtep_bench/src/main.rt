@@ -1,4 +1,6 @@
 // Reads a script from standard input and prints what a ring does, frame by frame.
+#![tactic(auto)]
+
 ghost use Rattle.std.specs.Prelude.{◌≤◌, length};
 
 use libc::{STDIN_FILENO, STDOUT_FILENO};
@@ -8,6 +10,7 @@ use script::session::{Acted, Session};
 
 // The session, the end of what is to be written, and the line that is being read.
 #[derive(Drop)]
+#[derive(Clone, Copy)]
 struct State {
     session: Session,
     used: usize,

@@ -1,4 +1,6 @@
 // Runs a recorded day on the bench: `rtep_replay RINGFILE CAPTURE`.
+#![tactic(auto)]
+
 ghost use Rattle.std.specs.Prelude.{◌≤◌, length};
 
 use day::standing::put_end_heading;

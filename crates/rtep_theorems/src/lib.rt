@@ -1,1 +1,2 @@
 // What holds of what C calls: theorems, no code.
+#![tactic(auto)]

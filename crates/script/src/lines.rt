@@ -5,6 +5,7 @@ ghost use Rattle.script.specs.Lines.{first_word, number_or, same, joined, number
 use parts::request::Request;
 
 #[derive(Drop)]
+#[derive(Clone, Copy)]
 pub enum Line {
     Ring(usize),
     Queue { from: usize, request: Request },
@@ -14,6 +15,7 @@ pub enum Line {
 
 // The numbers behind a line's first word: whether each word there is one, how many there are, and the first five.
 #[derive(Drop)]
+#[derive(Clone, Copy)]
 pub struct Numbers {
     pub good: bool,
     pub count: usize,

@@ -7,6 +7,7 @@ use crate::lines::Line;
 
 // What is kept of a line: its first octets, up to 40, and how many those are. No good line is longer than 35.
 #[derive(Drop)]
+#[derive(Clone, Copy)]
 pub struct Held {
     pub octets: [u8; 40],
     pub len: usize,
@@ -14,6 +15,7 @@ pub struct Held {
 
 // A line after more of it was read, the place behind, and whether its line feed has come.
 #[derive(Drop)]
+#[derive(Clone, Copy)]
 pub struct Fed {
     pub held: Held,
     pub next: usize,

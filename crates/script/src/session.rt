@@ -15,6 +15,7 @@ use parts::request::Request;
 
 // Whether there is a ring yet, and its bench.
 #[derive(Drop)]
+#[derive(Clone, Copy)]
 pub struct Session {
     pub begun: bool,
     pub bench: Bench,
@@ -22,6 +23,7 @@ pub struct Session {
 
 // What a call did: the session after it, the end of what it printed, and the steps that are left to do; or, for want of room, nothing.
 #[derive(Drop)]
+#[derive(Clone, Copy)]
 pub struct Acted {
     pub session: Session,
     pub used: usize,

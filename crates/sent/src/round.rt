@@ -21,6 +21,7 @@ use parts::live::Live;
 
 // What a station looks at when it composes a frame.
 #[derive(Drop)]
+#[derive(Clone, Copy)]
 pub struct Sight {
     pub own: u8,
     pub live: Live,
@@ -30,6 +31,7 @@ pub struct Sight {
 
 // A token's priority and its named station.
 #[derive(Drop)]
+#[derive(Clone, Copy)]
 pub struct Bid {
     pub priority: u8,
     pub named: u8,

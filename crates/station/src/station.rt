@@ -19,6 +19,7 @@ use parts::moves::State;
 
 // The last handled number, or none.
 #[derive(Drop)]
+#[derive(Clone, Copy)]
 pub enum Handled {
     Never,
     Last(u16),
@@ -26,6 +27,7 @@ pub enum Handled {
 
 // Where the station stands: its state, the frame it awaits an acknowledgement for, the last handled number, the retry count.
 #[derive(Drop)]
+#[derive(Clone, Copy)]
 pub struct Turn {
     pub state: State,
     pub awaited: Dispatch,
@@ -35,6 +37,7 @@ pub struct Turn {
 
 // Messages lost at a full receive list, and messages given up.
 #[derive(Drop)]
+#[derive(Clone, Copy)]
 pub struct Counts {
     pub lost: u32,
     pub givenup: u32,
@@ -42,6 +45,7 @@ pub struct Counts {
 
 // A station of a ring of `n` with the retry limit `limit`, at the position `own`.
 #[derive(Drop)]
+#[derive(Clone, Copy)]
 pub struct Station {
     pub n: u8,
     pub limit: u8,
@@ -55,6 +59,7 @@ pub struct Station {
 
 // Whose payload a call moves, or none: queue and frame put it into the message's place, take hands it out.
 #[derive(Drop)]
+#[derive(Clone, Copy)]
 pub enum Payload {
     NoPayload,
     Of(Message),
@@ -63,6 +68,7 @@ pub enum Payload {
 // What every call answers: the station handed back, the number, the frame to send, the station newly struck, the messages
 // given up in order, the message whose payload moves.
 #[derive(Drop)]
+#[derive(Clone, Copy)]
 pub struct Answer {
     pub station: Station,
     pub number: u32,

@@ -29,6 +29,7 @@ use parts::live::Live;
 
 // Whom a call strikes, and which messages are given up with it.
 #[derive(Drop)]
+#[derive(Clone, Copy)]
 pub enum Blow {
     // Nobody is struck.
     Spares,
@@ -42,6 +43,7 @@ pub enum Blow {
 
 // The acknowledged message that leaves, if one does; the one in flight after it; who is struck; the message to store.
 #[derive(Drop)]
+#[derive(Clone, Copy)]
 pub struct Deeds {
     pub lands: Flight,
     pub flight: Flight,
@@ -51,6 +53,7 @@ pub struct Deeds {
 
 // What was decided, and whether it changes the turn alone.
 #[derive(Drop)]
+#[derive(Clone, Copy)]
 pub struct Verdict {
     pub alone: bool,
     pub turn: Turn,
@@ -61,6 +64,7 @@ pub struct Verdict {
 
 // The receive list and the count of those lost after storing, and the message that was stored.
 #[derive(Drop)]
+#[derive(Clone, Copy)]
 pub struct Received {
     pub list: Messages,
     pub lost: u32,
@@ -69,6 +73,7 @@ pub struct Received {
 
 // The turn and the frame to send, and whether nothing else was decided.
 #[derive(Drop)]
+#[derive(Clone, Copy)]
 pub struct Turned {
     pub alone: bool,
     pub turn: Turn,

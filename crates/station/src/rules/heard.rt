@@ -12,6 +12,7 @@ use parts::moves::{Event, State};
 
 // The turn after an acknowledgement and a failing station, and what they do beside it.
 #[derive(Drop)]
+#[derive(Clone, Copy)]
 pub struct Course {
     pub turn: Turn,
     pub deeds: Deeds,
