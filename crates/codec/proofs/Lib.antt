@@ -1,5 +1,3 @@
--- The laws and theorems of the codec that belong to no one function, what a reader owns, and how one in a local is lent.
+-- The laws and theorems of the codec that belong to no one function.
 pub mod Laws
-pub mod Lent
-pub mod Owns
 pub mod Theorems

@@ -1,0 +1,19 @@
+-- `writing::write_transmit` meets its contract: what looking finds says whether the packet is laid.
+use lib.ListN.{length}
+use Rattle.packet_codec.specs.declared.packet.Packet.TheVariants.{Transmit}
+use Rattle.packet_codec.specs.Packet.{packet_octets}
+use Rattle.packet_codec.proofs.Laws.Written.{write_looked, written_not, written}
+use Rattle.packet_codec.proofs.writing.write_transmit.Goals as goal
+
+pub returns-in-Bad : goal.returns-in-Bad
+returns-in-Bad c =
+    let a = c.args in
+    let found = write_looked a.ring.now (Transmit a.q) (length a.information.now) _ _ c.look_transmit.ensures c.then_length.ensures in
+    written_not a.ring.now (Transmit a.q) a.information.now a.out.now c.requires _ found _ c.in-Bad.is
+
+pub returns-in-Sound : goal.returns-in-Sound
+unfolding packet_octets
+returns-in-Sound c =
+    let a = c.args in
+    let found = write_looked a.ring.now (Transmit a.q) (length a.information.now) _ _ c.look_transmit.ensures c.then_length.ensures in
+    written a.ring.now (Transmit a.q) a.information.now a.out.now c.requires _ found _ c.in-Sound.is c.lay_short.ensures
