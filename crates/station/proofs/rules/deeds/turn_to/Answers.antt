@@ -1,0 +1,6 @@
+-- `deeds::turn_to` meets its contract: by its fields.
+use mathlib.Core.Path.{◌∙◌}
+use Rattle.station.proofs.rules.deeds.turn_to.Goals as goal
+
+pub returns : goal.returns
+returns c = c.verdict_of.ensures ∙ rw c.no_deeds-deeds.ensures
