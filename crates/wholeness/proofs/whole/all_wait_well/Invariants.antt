@@ -1,0 +1,14 @@
+-- `whole::all_wait_well` meets its contract. The loop's invariant: what is left gives what the whole gives.
+use mathlib.Core.Path.{◌≡◌}
+use Prim.Native.Nat.{◌-◌, ◌≤◌}
+use lib.ListN.{drop}
+use Rattle.parts.specs.Choose.{every}
+use Rattle.parts.specs.Messages.{all}
+use Rattle.wholeness.specs.Whole.{waits_well}
+use Rattle.wholeness.proofs.whole.all_wait_well.Given as goal
+
+abbrev pub invariant-loop-i : goal.invariant-loop-i
+invariant-loop-i l = (l.i ≤ l.k) × (every (waits_well l.live l.f) (drop l.i (all l.l)) ≡ every (waits_well l.live l.f) (all l.l))
+
+abbrev pub decreases-loop-i : goal.decreases-loop-i
+decreases-loop-i l = l.k - l.i

@@ -1,0 +1,53 @@
+use mathlib.Core.Path.{◌≡◌, refl, sym, ◌∙◌}
+use Prim.Native.Nat.{◌-◌}
+use native.Mathlib.Omega.{arith}
+use lib.ListN.{length}
+use borrow.Author.Rules.{rules}
+use Rattle.wholeness.specs.Whole.{message_good}
+use Rattle.parts.proofs.Laws.Messages.{length_mapped, used_most, all_from, none_from}
+use Rattle.wholeness.proofs.Laws.Whole.{every_none, every_here, every_more}
+use Rattle.wholeness.proofs.whole.messages_good.Goals as goal
+
+pub loop-i-init : goal.loop-i-init
+loop-i-init c = (omega arith, refl)
+
+pub offset_bounds-l-i : goal.offset_bounds-l-i
+offset_bounds-l-i c =
+    let b = used_most c.args.l in
+    search rules
+
+pub bounds-l-i : goal.bounds-l-i
+bounds-l-i c =
+    let b = used_most c.args.l in
+    search rules
+
+pub returns-then-not-message_good : goal.returns-then-not-message_good
+returns-then-not-message_good c =
+    let a = c.args in
+    let l = c.loop-i in
+    let h : length a.l.items ≡ 16 = search length_mapped in
+    let m = all_from a.l h l.i (omega arith) in
+    sym (sym l.invariant.1 ∙ every_here (message_good a.n a.own) _ _ _ m (sym c.message_good.ensures ∙ c.if-not-message_good.true))
+
+pub overflow_add-i : goal.overflow_add-i
+overflow_add-i c =
+    let b = used_most c.args.l in
+    omega arith
+
+pub loop-i-smaller : goal.loop-i-smaller
+loop-i-smaller c = omega arith
+
+pub loop-i-preserved : goal.loop-i-preserved
+loop-i-preserved c =
+    let a = c.args in
+    let l = c.loop-i in
+    let h : length a.l.items ≡ 16 = search length_mapped in
+    let m = all_from a.l h l.i (omega arith) in
+    (omega arith, sym (every_more (message_good a.n a.own) _ _ _ m (sym c.message_good.ensures ∙ c.if-not-message_good.false)) ∙ l.invariant.1)
+
+pub returns : goal.returns
+returns c =
+    let a = c.args in
+    let l = c.loop-i in
+    let h : length a.l.items ≡ 16 = search length_mapped in
+    sym (sym l.invariant.1 ∙ every_none (message_good a.n a.own) _ (none_from a.l h l.i (omega arith)))
