@@ -77,11 +77,11 @@ list_length = items_in + items_length
 abbrev pub ring_room : ℕ
 ring_room = file_octets 2 64
 
-abbrev pub field_own : ℕ
-field_own = ring_room
+abbrev pub own_at : ℕ
+own_at = ring_room
 
 abbrev pub state_at : ℕ
-state_at = field_own + 1
+state_at = own_at + 1
 
 abbrev pub retries_at : ℕ
 retries_at = state_at + 1

@@ -24,13 +24,16 @@ place_of (m ∷ ms) p h = go (eqb m.place p) refl (place_of ms p)
         let r = rest (sym (place_later m ms p (eqb-false m.place p e)) ∙ h) in
         (r.0, Memᴰ.tail r.1, r.2)
 
-pub place_had : (ms : List Message) (p : ℕ) (m : Message) → Memᴰ m ms → m.place ≡ p → has_place ms p ≡ true
-place_had ms p m (Memᴰ.head {x = x} {xs = xs} e) q = place_here x xs p (ap (λ (y : Message). y.place) (sym e) ∙ q)
-place_had ms p m (Memᴰ.tail {x = x} {xs = xs} h) q = go (eqb x.place p) refl (place_had xs p m h q)
+had_by : (m : Message) (ms : List Message) (p : ℕ) → Memᴰ m ms → m.place ≡ p → has_place ms p ≡ true
+had_by m ms p (Memᴰ.head {x = x} {xs = xs} e) q = place_here x xs p (ap (λ (y : Message). y.place) (sym e) ∙ q)
+had_by m ms p (Memᴰ.tail {x = x} {xs = xs} h) q = go (eqb x.place p) refl (had_by m xs p h q)
   where
     go : (b : Bool) → eqb x.place p ≡ b → has_place xs p ≡ true → has_place (x ∷ xs) p ≡ true
     go true e r = place_here x xs p (eqb-true x.place p e)
     go false e r = place_later x xs p (eqb-false x.place p e) ∙ r
+
+pub place_had : (ms : List Message) (p : ℕ) (m : Message) → Memᴰ m ms → m.place ≡ p → has_place ms p ≡ true
+place_had ms p m h q = had_by m ms p h q
 
 pub place_nobodys : (ms : List Message) (p : ℕ) → has_place ms p ≡ false → (m : Message) → Memᴰ m ms → m.place ≡ p → ⊥
 place_nobodys ms p e m h q = false≢true (sym e ∙ place_had ms p m h q)
