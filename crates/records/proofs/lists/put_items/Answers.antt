@@ -43,7 +43,7 @@ loop-i-preserved c =
     let l = c.loop-i in
     let a = c.args in
     let h : length a.items ≡ 16 = search length_mapped in
-    (omega arith, c.put_message.auto.0 ∙ l.invariant.1, joined_more message_octets message_length (λ m. refl) a.out.now l.out c.put_message.new.out a.items a.at (a.at + l.i * message_length) l.i blank refl (omega arith) (omega arith) l.invariant.2 c.put_message.ensures)
+    (omega arith, c.put_message.auto.out ∙ l.invariant.1, joined_more message_octets message_length (λ m. refl) a.out.now l.out c.put_message.new.out a.items a.at (a.at + l.i * message_length) l.i blank refl (omega arith) (omega arith) l.invariant.2 c.put_message.ensures)
 
 pub returns : goal.returns
 returns c =

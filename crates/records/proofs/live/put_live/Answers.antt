@@ -35,7 +35,7 @@ loop-p-preserved c =
     let a = c.args in
     let h : length a.live.on ≡ 64 = search rules in
     let e : live_at + l.p * 1 ≡ live_at + l.p = omega arith in
-    (omega arith, c.put.auto.0 ∙ l.invariant.1, joined_more flag_octets 1 (λ m. refl) a.out.now l.out c.put.new.out a.live.on live_at (live_at + l.p) l.p false e (omega arith) (omega arith) l.invariant.2 (c.put.ensures ∙ ap (λ (x : ℕ). laid l.out (live_at + l.p) (octets 1 x)) c.flag_number-x.ensures))
+    (omega arith, c.put.auto.out ∙ l.invariant.1, joined_more flag_octets 1 (λ m. refl) a.out.now l.out c.put.new.out a.live.on live_at (live_at + l.p) l.p false e (omega arith) (omega arith) l.invariant.2 (c.put.ensures ∙ ap (λ (x : ℕ). laid l.out (live_at + l.p) (octets 1 x)) c.flag_number-x.ensures))
 
 pub returns : goal.returns
 returns c =

@@ -8,7 +8,7 @@ use Rattle.records.specs.Fields.{slip_start, slip_stations, slip_message}
 use Rattle.records.proofs.slip.put_slip.Goals as goal
 
 pub put_three-requires-2 : goal.put_three-requires-2
-put_three-requires-2 c = omega (arith, c.put_three.auto.0, c.put_start.auto.0, c.requires)
+put_three-requires-2 c = omega (arith, c.put_three.auto.out, c.put_start.auto.out, c.requires)
 
 pub returns : goal.returns
 returns c =
