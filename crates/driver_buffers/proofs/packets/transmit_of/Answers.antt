@@ -1,0 +1,7 @@
+-- `packets::transmit_of` meets its contract.
+use Rattle.driver_buffers.specs.Packets.{frame_of}
+use Rattle.driver_buffers.proofs.packets.transmit_of.Goals as goal
+
+pub returns : goal.returns
+unfolding frame_of
+returns c = rw (c.seat-master.ensures, c.seat-named.ensures)
