@@ -9,9 +9,5 @@ pub mod Laying
 pub mod Running
 pub mod Turns
 pub mod Going
-pub mod Again
-pub mod Shared
-pub mod Breaks
-pub mod Layout
 pub mod Touched
 pub mod Stepping
