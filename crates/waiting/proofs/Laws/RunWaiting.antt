@@ -62,6 +62,7 @@ resting_all f e (m ∷ ms) =
     resting_rests f m ms (ap (λ (t : Bool). t && eqb f.place m.place) e) ∙ ap (λ (l : List Message). m ∷ l) (resting_all f e ms)
 
 pub resting_listed : (f : Flight) (m : Message) (ms : List Message) → flies f m ≡ false → Memᴰ m ms → Memᴰ m (resting f ms)
+resting_listed f m [] e h = elim h [ ]
 resting_listed f m (a ∷ ms) e (Memᴰ.head x) =
     subst (Memᴰ m) (sym (resting_rests f a ms (ap (flies f) (sym x) ∙ e))) (Memᴰ.head x)
 resting_listed f m (a ∷ ms) e (Memᴰ.tail l) = go (flies f a) refl (resting_listed f m ms e l)
