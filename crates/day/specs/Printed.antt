@@ -75,7 +75,7 @@ stopped_text number index = text "stopped " ++ (cell number space ++ (text "at "
 -- ---- the end
 
 abbrev pub end_heading : List ℕ
-end_heading = text "station state live send receive lost given_up" ++ line_feed ∷ []
+end_heading = text "station state live send receive lost given-up" ++ line_feed ∷ []
 
 abbrev pub state_text : State → List ℕ
 state_text Offline = text "Offline "
