@@ -1,12 +1,13 @@
 // Reads a script from standard input and prints what a ring does, frame by frame.
 #![tactic(auto)]
 
-ghost use Rattle.std.specs.Prelude.{◌≤◌, length};
+ghost use Rattle.std.specs.Prelude.{◌≤◌, length, IfOk};
 
-use libc::{STDIN_FILENO, STDOUT_FILENO};
 use script::lines::Line;
 use script::reading::Held;
 use script::session::{Acted, Session};
+use std::io;
+use std::io::Read;
 
 // The session, the end of what is to be written, and the line that is being read.
 #[derive(Drop)]
@@ -18,47 +19,44 @@ struct State {
 }
 
 // Reads once, and answers how many octets came: none at the end.
-fn fill(input: &mut [u8]) -> usize
-    ensures { result ≤ length input.new }
+fn fill(reader: &mut impl Read, input: &mut [u8]) -> io::Result<usize>
+    ensures { IfOk result (λ n. n ≤ length input.new) }
 {
-    let got = libc::read(STDIN_FILENO, &mut *input);
-    if got <= 0 {
-        return 0;
-    }
-    io::count(got, &*input)
+    reader.read(&mut *input)
 }
 
 // Writes what stands in the buffer.
-fn flush(out: &[u8], used: usize) {
+fn flush(rt: &impl Print, out: &[u8], used: usize) -> io::Result<()> {
     if used <= out.len() {
-        io::write_all(STDOUT_FILENO, &out[..used]);
+        rt.write_all(&out[..used])?;
     }
+    Ok(())
 }
 
 // Room for a line; what stands in the buffer is written out where it has less.
-fn make_room(out: &[u8], used: usize) -> usize {
+fn make_room(rt: &impl Print, out: &[u8], used: usize) -> io::Result<usize> {
     if script::session::ROOM <= bench::running::room_from(out, used) {
-        return used;
+        return Ok(used);
     }
-    flush(out, used);
-    0
+    flush(rt, out, used)?;
+    Ok(0)
 }
 
 // A line with all of its steps.
-fn carry_out(s: Session, l: Line, out: &mut [u8], at: usize) -> Acted
+fn carry_out(rt: &impl Print, s: Session, l: Line, out: &mut [u8], at: usize) -> io::Result<Acted>
     requires { 64 ≤ length out.old }
 {
     let mut a = s.obey(l, &mut *out, at);
     while 0 < a.left {
-        flush(&*out, a.used);
+        flush(rt, &*out, a.used)?;
         let t = a.session;
         a = t.obey(Line::Step(a.left), &mut *out, 0);
     }
-    a
+    Ok(a)
 }
 
 // The octets of a block.
-fn take_in(b: State, block: &[u8], out: &mut [u8]) -> State
+fn take_in(rt: &impl Print, b: State, block: &[u8], out: &mut [u8]) -> io::Result<State>
     requires { 64 ≤ length out.old }
 {
     let mut session = b.session;
@@ -75,25 +73,27 @@ fn take_in(b: State, block: &[u8], out: &mut [u8]) -> State
         }
         let l = held.line();
         held = Held::none();
-        used = make_room(&*out, used);
+        used = make_room(rt, &*out, used)?;
         if script::session::refuses(session.begun, l) {
             used = script::session::refuse(&mut *out, used);
             continue;
         }
-        let a = carry_out(session, l, &mut *out, used);
+        let a = carry_out(rt, session, l, &mut *out, used)?;
         session = a.session;
         used = a.used;
     }
-    State {
+    Ok(State {
         session,
         used,
         held,
-    }
+    })
 }
 
-fn main() {
-    let mut input = io::large_buffer();
-    let mut out = io::large_buffer();
+// Where a read fails, the script ends; once all before that is done and printed, the answer is the error.
+fn main(rt: HostRuntime) -> io::Result<()> {
+    let mut stdin = rt.stdin();
+    let mut input = [0u8; 65536];
+    let mut out = [0u8; 65536];
     let session = Session::new();
     let held = Held::none();
     let mut b = State {
@@ -101,20 +101,23 @@ fn main() {
         used: 0,
         held,
     };
+    let mut ended = Ok(());
     let mut turns = u64::MAX;
     while turns > 0 {
-        let n = fill(&mut input);
-        if n == 0 {
-            break;
+        match fill(&mut stdin, &mut input) {
+            Ok(0) => break,
+            Ok(n) => b = take_in(&rt, b, &input[..n], &mut out)?,
+            Err(e) => {
+                ended = Err(e);
+                break;
+            }
         }
-        b = take_in(b, &input[..n], &mut out);
         turns -= 1;
     }
     let last = b.held;
     if 0 < last.len {
-        let e = take_in(b, b"\n", &mut out);
-        flush(&out, e.used);
-        return;
+        b = take_in(&rt, b, b"\n", &mut out)?;
     }
-    flush(&out, b.used);
+    flush(&rt, &out, b.used)?;
+    ended
 }

@@ -1,59 +1,84 @@
 // Runs a recorded day on the bench: `rtep_replay RINGFILE CAPTURE`.
 #![tactic(auto)]
 
-ghost use Rattle.std.specs.Prelude.{◌≤◌, length};
+ghost use Rattle.std.specs.Prelude.{◌≤◌, length, IfOk};
 
 use day::standing::put_end_heading;
-use libc::{STDERR_FILENO, STDOUT_FILENO};
 use replay::run::{Replay, begin};
+use std::env::FillError;
+use std::io::Read;
+use std::rt::{Env, Files};
+use std::{fs, io, str};
 
 // What is answered for a file that cannot be read: more than any buffer holds.
 const UNREAD: usize = usize::MAX;
 
-// Whether nothing is left to be read.
-fn at_end(fd: i32) -> bool {
-    let mut one = [0u8; 1];
-    libc::read(fd, &mut one) == 0
+// Reads as far as there is room, and answers how many octets came.
+fn read_full(reader: &mut impl Read, buf: &mut [u8]) -> io::Result<usize>
+    ensures { IfOk result (λ n. n ≤ length buf.new) }
+{
+    let mut done = 0;
+    while done < buf.len() {
+        let n = reader.read(&mut buf[done..])?;
+        if n == 0 {
+            break;
+        }
+        done += n;
+    }
+    Ok(done)
 }
 
 // Reads a file, as far as there is room, and answers how many octets came.
-fn read_file(path: &[u8], buf: &mut [u8]) -> usize {
-    let fd = os::open_read(path);
-    if fd < 0 {
-        os::fail(path);
-        return UNREAD;
-    }
-    let n = io::read_full(fd, &mut *buf);
-    if n < buf.len() {
-        if !at_end(fd) {
-            os::fail(path);
-            return UNREAD;
-        }
-    }
-    libc::close(fd);
-    n
+fn read_file(rt: &impl Files, path: &str, buf: &mut [u8]) -> io::Result<usize> {
+    let mut file = fs::open(rt, path)?;
+    read_full(&mut file, &mut *buf)
+}
+
+// Whether the program was started with an argument of this number; 0 is its own name.
+fn is_given(rt: &impl Env, i: usize) -> bool {
+    !matches!(rt.arg(i, &mut []), Err(FillError::NotPresent))
 }
 
 // Reads the file that an argument names. Where it cannot be read, that is said.
-fn read_named(i: usize, buf: &mut [u8]) -> usize {
-    let mut path = io::buffer();
-    let n = os::arg(i, &mut path);
-    if os::errno() != 0 {
-        os::fail(b"argument");
-        return UNREAD;
+fn read_named<R: Env + Files + Eprint>(rt: &R, i: usize, buf: &mut [u8]) -> io::Result<usize> {
+    let mut octets = [0u8; 4096];
+    let n = match rt.arg(i, &mut octets) {
+        Ok(n) => n,
+        Err(FillError::NotPresent) => {
+            eprintln!(rt; "argument: Invalid argument")?;
+            return Ok(UNREAD);
+        }
+        Err(FillError::TooLong) => {
+            eprintln!(rt; "argument: File name too long")?;
+            return Ok(UNREAD);
+        }
+    };
+    let path = match str::from_utf8(&octets[..n]) {
+        Ok(path) => path,
+        Err(e) => {
+            eprintln!(rt; "argument: {e}")?;
+            return Ok(UNREAD);
+        }
+    };
+    match read_file(rt, path, &mut *buf) {
+        Ok(n) => Ok(n),
+        Err(e) => {
+            eprintln!(rt; "{path}: {e}")?;
+            Ok(UNREAD)
+        }
     }
-    read_file(&path[..n], &mut *buf)
 }
 
 // Writes what stands in the buffer.
-fn flush(out: &[u8], used: usize) {
+fn flush(rt: &impl Print, out: &[u8], used: usize) -> io::Result<()> {
     if used <= out.len() {
-        io::write_all(STDOUT_FILENO, &out[..used]);
+        rt.write_all(&out[..used])?;
     }
+    Ok(())
 }
 
 // The records, as many at a time as the buffer has room for. Each turn does one at least, of one octet at least.
-fn records(r: Replay, capture: &[u8], out: &mut [u8]) -> Replay
+fn records(rt: &impl Print, r: Replay, capture: &[u8], out: &mut [u8]) -> io::Result<Replay>
     requires { 2048 ≤ length out.old }
 {
     let mut replay = r;
@@ -63,76 +88,77 @@ fn records(r: Replay, capture: &[u8], out: &mut [u8]) -> Replay
             break;
         }
         let a = replay.run(capture, &mut *out, 0);
-        flush(&*out, a.used);
+        flush(rt, &*out, a.used)?;
         replay = a.replay;
         turns -= 1;
     }
-    replay
+    Ok(replay)
 }
 
 // The end: a line for each station.
-fn stations(r: Replay, out: &mut [u8])
+fn stations(rt: &impl Print, r: Replay, out: &mut [u8]) -> io::Result<()>
     requires { 2048 ≤ length out.old }
 {
     let n = parts::live::seats(r.n);
     let used = put_end_heading(&mut *out, 0);
-    flush(&*out, used);
+    flush(rt, &*out, used)?;
     let mut p = 0;
     while p < n {
         let used = r.put_station(p, &mut *out, 0);
-        flush(&*out, used);
+        flush(rt, &*out, used)?;
         p += 1;
     }
+    Ok(())
 }
 
 // A day of a ring that is begun.
-fn day(r: Replay, capture: &[u8]) {
+fn day(rt: &impl Print, r: Replay, capture: &[u8]) -> io::Result<()> {
     let mut out = [0u8; 262144];
     let used = r.put_start(&mut out, 0);
-    flush(&out, used);
-    let end = records(r, capture, &mut out);
-    stations(end, &mut out);
+    flush(rt, &out, used)?;
+    let end = records(rt, r, capture, &mut out)?;
+    stations(rt, end, &mut out)
 }
 
 // A refusal of the whole.
-fn refuse(number: u32) {
-    let mut out = io::buffer();
+fn refuse(rt: &impl Print, number: u32) -> io::Result<()> {
+    let mut out = [0u8; 4096];
     let used = bench::text::put_answer(&mut out, 0, number);
-    flush(&out, used);
+    flush(rt, &out, used)
 }
 
-fn run(file: &[u8], capture: &[u8]) {
+fn run(rt: &impl Print, file: &[u8], capture: &[u8]) -> io::Result<()> {
     let b = begin(file, capture);
     if b.number != 0 {
-        refuse(b.number);
-        return;
+        return refuse(rt, b.number);
     }
     let r = b.replay;
-    day(r, capture);
+    day(rt, r, capture)
 }
 
 // With both files.
-fn with_capture(file: &[u8], capture: &[u8], n: usize) {
+fn with_capture(rt: &impl Print, file: &[u8], capture: &[u8], n: usize) -> io::Result<()> {
     if n <= capture.len() {
-        run(file, &capture[..n]);
+        run(rt, file, &capture[..n])?;
     }
+    Ok(())
 }
 
 // With the ring file, where it could be read.
-fn with_ring(file: &[u8], n: usize) {
+fn with_ring<R: Env + Files + Eprint + Print>(rt: &R, file: &[u8], n: usize) -> io::Result<()> {
     if n <= file.len() {
-        let mut capture = io::large_buffer();
-        let m = read_named(2, &mut capture);
-        with_capture(&file[..n], &capture, m);
+        let mut capture = [0u8; 65536];
+        let m = read_named(rt, 2, &mut capture)?;
+        with_capture(rt, &file[..n], &capture, m)?;
     }
+    Ok(())
 }
 
-fn main() {
-    if os::arg_count() != 3 {
-        io::write_all(STDERR_FILENO, b"usage: rtep_replay RINGFILE CAPTURE\n");
-        return;
+fn main(rt: HostRuntime) -> io::Result<()> {
+    if !is_given(&rt, 2) || is_given(&rt, 3) {
+        return eprintln!(rt; "usage: rtep_replay RINGFILE CAPTURE");
     }
-    let mut file = io::buffer();
-    let n = read_named(1, &mut file);
-    with_ring(&file, n);
+    let mut file = [0u8; 4096];
+    let n = read_named(&rt, 1, &mut file)?;
+    with_ring(&rt, &file, n)
 }
