@@ -1,4 +1,4 @@
-"""Two stations in one process, in Python over ctypes, with the archive as a shared library:
+"""Two stations in one process, in Python over ctypes, with the archive (tools/staticlib) as a shared library:
 
     gcc -shared -Wl,--whole-archive target/staticlib/librtep.a -Wl,--no-whole-archive -o librtep.so
     python3 examples/two_stations.py librtep.so

@@ -12,7 +12,7 @@ fn main() {
     };
     let archive = folder.join("librtep.a");
     if !archive.exists() {
-        println!("cargo:warning={} is missing: run 'rt staticlib rtep' first", archive.display());
+        println!("cargo:warning={} is missing: run tools/staticlib first", archive.display());
     }
     println!("cargo:rustc-link-search=native={}", folder.display());
     println!("cargo:rustc-link-lib=static=rtep");

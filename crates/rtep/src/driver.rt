@@ -1,26 +1,23 @@
-// What a driver in C calls of a station: each call of the crate `driver_calls`, with its contract, under the name that C links.
+// What a driver in C calls of a station: each call of the crate `driver_calls`, with its contract, under its name in C.
 ghost use Rattle.std.specs.Prelude.{length};
 ghost use Rattle.driver_calls.specs.Calls.{Making, Starting, Hearing, Timing, ring_kept, request_of, Queueing, Taking};
 
 // Makes a station's record of a ring file and the station's own address.
-#[unsafe(no_mangle)]
-pub extern "C" fn rtep_make(rec: &mut [u8], file: &[u8], own: u64) -> u32
+pub fn rtep_make(rec: &mut [u8], file: &[u8], own: u64) -> u32
     ensures { Making rec.old file.now own result rec.new }
 {
     driver_calls::making::make(rec, file, own)
 }
 
 // The station starts.
-#[unsafe(no_mangle)]
-pub extern "C" fn rtep_start(rec: &mut [u8], out: &mut [u8], told: &mut [u64; 84]) -> u32
+pub fn rtep_start(rec: &mut [u8], out: &mut [u8], told: &mut [u64; 84]) -> u32
     ensures { Starting rec.old out.old told.old result rec.new out.new told.new }
 {
     driver_calls::sending::start(rec, out, told)
 }
 
 // A frame is heard.
-#[unsafe(no_mangle)]
-pub extern "C" fn rtep_frame(
+pub fn rtep_frame(
     rec: &mut [u8],
     store: &mut [u8],
     from: u64,
@@ -35,21 +32,14 @@ pub extern "C" fn rtep_frame(
 }
 
 // The timer of the station runs.
-#[unsafe(no_mangle)]
-pub extern "C" fn rtep_timer(
-    rec: &mut [u8],
-    store: &[u8],
-    out: &mut [u8],
-    told: &mut [u64; 84],
-) -> u32
+pub fn rtep_timer(rec: &mut [u8], store: &[u8], out: &mut [u8], told: &mut [u64; 84]) -> u32
     ensures { Timing rec.old store.now out.old told.old result rec.new out.new told.new }
 {
     driver_calls::sending::timer(rec, store, out, told)
 }
 
 // A message is handed over.
-#[unsafe(no_mangle)]
-pub extern "C" fn rtep_queue(
+pub fn rtep_queue(
     rec: &mut [u8],
     store: &mut [u8],
     to: u64,
@@ -63,8 +53,7 @@ pub extern "C" fn rtep_queue(
 }
 
 // The best message of a channel is taken.
-#[unsafe(no_mangle)]
-pub extern "C" fn rtep_take(
+pub fn rtep_take(
     rec: &mut [u8],
     store: &[u8],
     channel: usize,

@@ -48,8 +48,7 @@ pub fn tell_ring(told: &mut [u64], limit: u64, members: &[u64])
 }
 
 // Reads a ring file, and tells its ring.
-#[unsafe(no_mangle)]
-pub extern "C" fn rtep_ring(file: &[u8], told: &mut [u64; 66]) -> u32
+pub fn rtep_ring(file: &[u8], told: &mut [u64; 66]) -> u32
     ensures { RingTold file.now told.old result told.new }
 {
     let mut addresses = [0u64; 64];
@@ -77,16 +76,14 @@ fn form_told(asked: u64, file: &[u8], out: &mut [u8], told: &mut [u64; 1]) -> u3
 }
 
 // The same ring in form 1.
-#[unsafe(no_mangle)]
-pub extern "C" fn rtep_to_form_1(file: &[u8], out: &mut [u8; 450], told: &mut [u64; 1]) -> u32
+pub fn rtep_to_form_1(file: &[u8], out: &mut [u8; 450], told: &mut [u64; 1]) -> u32
     ensures { FormTold 1 file.now out.old told.old result out.new told.new }
 {
     form_told(1, file, out, told)
 }
 
 // The same ring in form 2.
-#[unsafe(no_mangle)]
-pub extern "C" fn rtep_to_form_2(file: &[u8], out: &mut [u8; 450], told: &mut [u64; 1]) -> u32
+pub fn rtep_to_form_2(file: &[u8], out: &mut [u8; 450], told: &mut [u64; 1]) -> u32
     ensures { FormTold 2 file.now out.old told.old result out.new told.new }
 {
     form_told(2, file, out, told)
@@ -138,8 +135,7 @@ fn head_values(h: Head) -> [u64; 8]
 }
 
 // Reads a packet against a ring, and tells its eight numbers.
-#[unsafe(no_mangle)]
-pub extern "C" fn rtep_read(ring: &[u64], packet: &[u8], told: &mut [u64; 8]) -> u32
+pub fn rtep_read(ring: &[u64], packet: &[u8], told: &mut [u64; 8]) -> u32
     ensures { ReadTold ring.now packet.now told.old result told.new }
 {
     let number = refusal_of(ring, packet);
@@ -280,8 +276,7 @@ fn write_told(
 }
 
 // Writes the packet of eight numbers against a ring.
-#[unsafe(no_mangle)]
-pub extern "C" fn rtep_write(
+pub fn rtep_write(
     ring: &[u64],
     packet: &[u64; 8],
     information: &[u8],

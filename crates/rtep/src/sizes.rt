@@ -7,99 +7,86 @@ use packet_codec::packet::Packet;
 use records::layout;
 
 // The number of the layout that this archive is built for.
-#[unsafe(no_mangle)]
-pub extern "C" fn rtep_layout() -> u32
+pub fn rtep_layout() -> u32
     ensures { result ≡ layout_number }
 {
     3
 }
 
-#[unsafe(no_mangle)]
-pub extern "C" fn rtep_record_size() -> usize
+pub fn rtep_record_size() -> usize
     ensures { result ≡ record_length }
 {
     layout::RECORD
 }
 
-#[unsafe(no_mangle)]
-pub extern "C" fn rtep_store_size() -> usize
+pub fn rtep_store_size() -> usize
     ensures { result ≡ store_length }
 {
     layout::STORE
 }
 
-#[unsafe(no_mangle)]
-pub extern "C" fn rtep_place_size() -> usize
+pub fn rtep_place_size() -> usize
     ensures { result ≡ place_length }
 {
     layout::PLACE
 }
 
 // The least that an out buffer has.
-#[unsafe(no_mangle)]
-pub extern "C" fn rtep_out_size() -> usize
+pub fn rtep_out_size() -> usize
     ensures { result ≡ out_length }
 {
     Packet::LONGEST
 }
 
 // What start, frame and timer tell.
-#[unsafe(no_mangle)]
-pub extern "C" fn rtep_told_size() -> usize
+pub fn rtep_told_size() -> usize
     ensures { result ≡ octets_of told_numbers }
 {
     672
 }
 
 // What take tells.
-#[unsafe(no_mangle)]
-pub extern "C" fn rtep_taken_size() -> usize
+pub fn rtep_taken_size() -> usize
     ensures { result ≡ octets_of taken_numbers }
 {
     32
 }
 
 // A packet as numbers.
-#[unsafe(no_mangle)]
-pub extern "C" fn rtep_packet_size() -> usize
+pub fn rtep_packet_size() -> usize
     ensures { result ≡ octets_of packet_numbers }
 {
     64
 }
 
 // A ring as numbers.
-#[unsafe(no_mangle)]
-pub extern "C" fn rtep_ring_size() -> usize
+pub fn rtep_ring_size() -> usize
     ensures { result ≡ octets_of ring_numbers }
 {
     528
 }
 
 // The longest ring file.
-#[unsafe(no_mangle)]
-pub extern "C" fn rtep_file_size() -> usize
+pub fn rtep_file_size() -> usize
     ensures { result ≡ longest_file }
 {
     codec::head::LONGEST
 }
 
 // Where in a record the state stands, one octet, and the two counts, four octets each.
-#[unsafe(no_mangle)]
-pub extern "C" fn rtep_state_at() -> usize
+pub fn rtep_state_at() -> usize
     ensures { result ≡ state_at }
 {
     layout::STATE
 }
 
-#[unsafe(no_mangle)]
-pub extern "C" fn rtep_lost_at() -> usize
+pub fn rtep_lost_at() -> usize
     ensures { result ≡ lost_at }
 {
     layout::LOST
 }
 
-#[unsafe(no_mangle)]
-pub extern "C" fn rtep_given_up_at() -> usize
+pub fn rtep_given_up_at() -> usize
     ensures { result ≡ given_up_at }
 {
     layout::GIVEN_UP

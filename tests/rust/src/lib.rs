@@ -1,5 +1,5 @@
 //! The proved exports as safe functions. They pass on what they are given and decide nothing.
-//! `model` is the independent reading of document 01 that they are held to, plain and slow; `yardstick`
+//! `model` is the independent reading of the rule book that they are held to, plain and slow; `yardstick`
 //! is the one that the benchmarks time them beside, made to be fast.
 
 pub mod days;

@@ -1,4 +1,4 @@
-//! The oracle: document 01's ring file and packets, and behind them its station, a fault-free ring and a
+//! The oracle: the rule book's ring file and packets, and behind them its station, a fault-free ring and a
 //! recorded day, read from the page alone and with no eye to speed.
 //!
 //! A refusal lists everything that is wrong, in the page's order of checks, so that the tests can

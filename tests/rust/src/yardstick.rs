@@ -1,4 +1,4 @@
-//! The yardstick that the benchmarks time the proved calls and the proved bench beside: document 01's
+//! The yardstick that the benchmarks time the proved calls and the proved bench beside: the rule book's
 //! codec, station, fault-free ring and recorded day as one writes them in Rust by hand, to be fast.
 
 pub mod codec;

@@ -1,4 +1,4 @@
-//! The bench of document 01 in plain Rust, written from the page alone: the same script on standard
+//! The bench of the rule book in plain Rust, written from the page alone: the same script on standard
 //! input, the same lines on standard output. Its stations are those of `rtep::yardstick`.
 
 use rtep::yardstick::out::{Out, BLOCK, HEADING};

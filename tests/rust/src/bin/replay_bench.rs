@@ -42,7 +42,7 @@ impl Files {
 fn main() -> io::Result<()> {
     let proved = match env::args_os().nth(1) {
         Some(path) => PathBuf::from(path),
-        None => Path::new(env!("CARGO_MANIFEST_DIR")).join("../../target/bin/rtep_replay"),
+        None => Path::new(env!("CARGO_MANIFEST_DIR")).join("../../crates/rtep_replay/out/rtep_replay"),
     };
     let plain = env::current_exe()?.with_file_name("plain_replay");
 

@@ -26,7 +26,7 @@ step 65535
 fn main() -> io::Result<()> {
     let proved = match env::args_os().nth(1) {
         Some(path) => PathBuf::from(path),
-        None => Path::new(env!("CARGO_MANIFEST_DIR")).join("../../target/bin/rtep_bench"),
+        None => Path::new(env!("CARGO_MANIFEST_DIR")).join("../../crates/rtep_bench/out/rtep_bench"),
     };
     let plain = env::current_exe()?.with_file_name("plain_bench");
 

@@ -1,4 +1,4 @@
-//! A recorded day on the model's stations, read from request CR 1 and document 01 alone: frames get lost,
+//! A recorded day on the model's stations, read from the rule book and the request for recorded days alone: frames get lost,
 //! timers run, and more than one frame may be on the wire.
 
 use super::capture::{self, Event};

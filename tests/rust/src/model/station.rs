@@ -1,4 +1,4 @@
-//! Document 01's station, read from the page alone: the six calls over the same record, the same store
+//! The rule book's station, read from the page alone: the six calls over the same record, the same store
 //! and the same numbers as the proved ones.
 //!
 //! It is what the tests hold the proved calls to, so it is written to be believed and not to be fast,
