@@ -1,5 +1,5 @@
 -- "Queue calls fall between steps."
-use Rattle.std.specs.Prelude.{List, ℕ, leb, set}
+use Rattle.std.specs.Prelude.{ℕ, leb, set}
 use Rattle.parts.specs.Choose.{pick}
 use Rattle.parts.specs.Live.{seats}
 use Rattle.parts.specs.declared.request.Request.{Request}

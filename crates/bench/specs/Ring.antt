@@ -1,5 +1,5 @@
 -- The bench: a table of stations and the frame on the wire; and how a ring begins.
-use Rattle.std.specs.Prelude.{List, ℕ, zero, suc, get_or, set, replicate}
+use Rattle.std.specs.Prelude.{ℕ, zero, suc, get_or, set, replicate}
 use Rattle.parts.specs.Live.{seats}
 use Rattle.station.specs.Stations.{made}
 use Rattle.station.specs.Start.{start_rule}

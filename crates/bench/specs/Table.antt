@@ -16,7 +16,6 @@ use Rattle.bench.specs.Delivery.{is_sent, hearing, is_quiet, stands_by, steps}
 use Rattle.bench.specs.Rows.{rows_on}
 use Rattle.bench.specs.Text.{rows_text}
 use Rattle.bench.specs.Running.{steps_text}
-use Rattle.bench.specs.declared.ring.Wire.{Wire}
 use Rattle.bench.specs.declared.ring.Bench.{Bench}
 use Rattle.bench.specs.declared.table.Handing.{Handing}
 use Rattle.bench.specs.declared.table.Going.{Going}

@@ -5,7 +5,7 @@ use Rattle.codec.specs.Ring.{read_ring}
 use Rattle.packet_codec.specs.Packet.{longest_packet}
 use Rattle.records.specs.Layout.{record_length, store_length}
 use Rattle.driver_buffers.specs.Packets.{address_of}
-use Rattle.driver_calls.specs.Calls.{ring_of, ring_in, ring_kept, request_of, Making, Starting, Hearing, Queueing}
+use Rattle.driver_calls.specs.Calls.{ring_of, ring_kept, request_of, Making, Starting, Hearing, Queueing}
 use Rattle.rtep.specs.Sizes.{told_numbers}
 
 -- a node: its record and its store

@@ -1,5 +1,5 @@
 -- A call of one station: its timer, or a message that it is handed.
-use Rattle.std.specs.Prelude.{Bool, false, List, ◌++◌, ℕ, ◌+◌}
+use Rattle.std.specs.Prelude.{Bool, false, List, ◌++◌, ℕ}
 use Rattle.parts.specs.Choose.{pick}
 use Rattle.parts.specs.declared.frame.Dispatch.{Dispatch}
 use Rattle.parts.specs.declared.frame.Dispatch.TheVariants.{Nothing}

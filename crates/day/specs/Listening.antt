@@ -1,6 +1,6 @@
 -- What the ring file says of a queue record: whether its destination listens on its channel.
 use Rattle.std.specs.Prelude.{Bool, List, [], ℕ}
-use Rattle.codec.specs.Ring.{Ring, listens}
+use Rattle.codec.specs.Ring.{listens}
 use Rattle.parts.specs.declared.request.Request.{Request}
 use Rattle.capture.specs.declared.record.Event.{Event}
 use Rattle.capture.specs.declared.record.Event.TheVariants.{Delivered, LostForAddressee, LostForAll, Timer, Queue}

@@ -1,8 +1,7 @@
 -- What a record asks for: whom it hands a frame, and which station it calls.
 use Rattle.std.specs.Prelude.{Bool, true, false, List, [], ◌∷◌, ℕ, ltb, length}
 use Rattle.parts.specs.Live.{seats}
-use Rattle.bench.specs.Ring.{nobody}
-use Rattle.bench.specs.Delivery.{handed, is_quiet}
+use Rattle.bench.specs.Delivery.{is_quiet}
 use Rattle.bench.specs.Table.{no_frame}
 use Rattle.bench.specs.declared.table.Handing.{Handing}
 use Rattle.capture.specs.declared.record.Event.{Event}

@@ -1,10 +1,9 @@
 -- What one record does to a day, and when it is refused.
-use Rattle.std.specs.Prelude.{Bool, true, false, ◌&&◌, List, [], ◌∷◌, ◌++◌, ℕ, leb, length, set}
+use Rattle.std.specs.Prelude.{Bool, false, ◌&&◌, List, [], ◌∷◌, ◌++◌, ℕ, leb, length, set}
 use Rattle.parts.specs.Choose.{pick}
 use Rattle.station.specs.Queue.{queue_rule}
 use Rattle.station.specs.Timer.{timer_rule}
 use Rattle.parts.specs.declared.frame.Dispatch.{Dispatch}
-use Rattle.station.specs.declared.station.Station.{Station}
 use Rattle.station.specs.declared.station.Answer.{Answer}
 use Rattle.bench.specs.Delivery.{handed, delivered, others, bystanders}
 use Rattle.bench.specs.Delivery.{is_sent}

@@ -1,5 +1,5 @@
 -- Who newly strikes at a frame that is handed round.
-use Rattle.std.specs.Prelude.{Bool, true, false, not, List, [], ◌++◌, ℕ, zero, suc, ◌+◌, leb, eqb, get_or, replicate, set}
+use Rattle.std.specs.Prelude.{Bool, true, false, List, [], ◌++◌, ℕ, zero, suc, leb, eqb, get_or, replicate, set}
 use Rattle.parts.specs.Choose.{pick}
 use Rattle.parts.specs.Live.{live_at}
 use Rattle.parts.specs.Frames.{failing_of}

@@ -1,5 +1,5 @@
 -- The wire as an array of 64 places: its first `count` hold the frames, the oldest first.
-use Rattle.std.specs.Prelude.{List, ℕ, ◌+◌, ltb, take, set, replicate}
+use Rattle.std.specs.Prelude.{List, ◌+◌, ltb, take, set, replicate}
 use Rattle.parts.specs.Choose.{pick}
 use Rattle.bench.specs.Table.{no_frame}
 use Rattle.day.specs.declared.wire.Flying.{Flying}

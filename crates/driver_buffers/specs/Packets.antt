@@ -1,5 +1,5 @@
 -- Frames over ring positions and packets over addresses.
-use Rattle.std.specs.Prelude.{ℕ, ◌%◌, List, [], ◌∷◌, eqb, get_or}
+use Rattle.std.specs.Prelude.{ℕ, ◌%◌, List, [], eqb, get_or}
 use Rattle.codec.specs.Ring.{position}
 use Rattle.packet_codec.specs.Packet.{token, transmit, information, size, packet_octets}
 use Rattle.packet_codec.specs.declared.packet.Packet.{Packet}

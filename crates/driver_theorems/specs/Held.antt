@@ -1,7 +1,7 @@
 -- A record in a driver's hands, and what is known of it.
 use Rattle.station.specs.declared.station.Answer.{Answer}
 use Rattle.record_theorems.specs.RoundTrip.{ReadsAs}
-use Rattle.codec.specs.Ring.{read_ring, limit}
+use Rattle.codec.specs.Ring.{read_ring}
 use Rattle.std.specs.Prelude.{◌≡◌, true, List, ℕ}
 use Rattle.codec.specs.Octets.{Octets}
 use Rattle.parts.specs.declared.request.Request.{Request}

@@ -1,5 +1,5 @@
 -- The packet: its fields and their places, its checks in their order, and what reading and writing give.
-use Rattle.std.specs.Prelude.{ℕ, zero, suc, ◌+◌, ◌-◌, ◌*◌, ◌/◌, ◌^◌, ◌<◌, max, ◌≡◌, Bool, true, false, cond, not, ◌&&◌, List, [], ◌∷◌, ◌++◌, ltb, leb, eqb, length, take, drop, get_or}
+use Rattle.std.specs.Prelude.{ℕ, zero, suc, ◌+◌, ◌-◌, ◌*◌, ◌/◌, ◌^◌, ◌<◌, max, ◌≡◌, Bool, true, false, cond, not, List, [], ◌∷◌, ◌++◌, ltb, leb, eqb, length, take, drop, get_or}
 use Rattle.codec.specs.Order.{first_of}
 use Rattle.codec.specs.Sizes.{most_information}
 use Rattle.codec.specs.Octets.{octets, number_at, laid, zeros}

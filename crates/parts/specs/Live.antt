@@ -1,5 +1,5 @@
 -- The live set, and "the successor of a station is the next live one in ring order, cyclically".
-use Rattle.std.specs.Prelude.{ℕ, zero, suc, ◌+◌, ◌-◌, Bool, true, false, ◌++◌, set, replicate, nat_lt, slice_index_or, slice_set}
+use Rattle.std.specs.Prelude.{ℕ, zero, suc, ◌+◌, ◌-◌, Bool, true, false, ◌++◌, replicate, nat_lt, slice_index_or, slice_set}
 use Rattle.parts.specs.Choose.{pick}
 use Rattle.parts.specs.declared.live.Live.{Live}
 use Rattle.parts.specs.declared.frame.Whom.{Whom}

@@ -1,5 +1,5 @@
 -- Checks in their order: the number of the first that holds, or 0.
-use Rattle.std.specs.Prelude.{ℕ, Bool, not, List, [], ◌∷◌, ◌==◌, nat_le, nat_lt}
+use Rattle.std.specs.Prelude.{ℕ, Bool, not, [], ◌∷◌, ◌==◌, nat_le, nat_lt}
 use Rattle.codec.specs.Order.{first_of}
 use Rattle.codec.specs.Sizes.{most_information}
 use Rattle.parts.specs.declared.list.Best.{Best}

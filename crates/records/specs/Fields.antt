@@ -1,6 +1,6 @@
 -- The record's fields: what a number in it stands for, and the number that stands for it. A field is good where writing what it is
 -- read as gives it back.
-use Rattle.std.specs.Prelude.{ℕ, zero, suc, ◌+◌, ◌-◌, ◌*◌, min, max, Bool, true, false, not, List, [], ◌∷◌, ◌++◌, ltb, leb, eqb, replicate, drop}
+use Rattle.std.specs.Prelude.{ℕ, zero, suc, ◌+◌, ◌-◌, ◌*◌, min, max, Bool, true, false, not, List, [], ◌∷◌, ◌++◌, ltb, eqb, replicate, drop}
 use Rattle.codec.specs.Octets.{octets, number_at, first_nonzero}
 use Rattle.parts.specs.Choose.{pick, all_of}
 use Rattle.parts.specs.Moves.{state_number}

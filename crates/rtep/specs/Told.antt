@@ -1,5 +1,5 @@
 -- What a driver in C is told: for each answer of the codec this paper's number and values.
-use Rattle.std.specs.Prelude.{ℕ, ◌+◌, ◌≡◌, Bool, cond, not, List, [], ◌∷◌, ◌++◌, ltb, eqb, length, take, get_or}
+use Rattle.std.specs.Prelude.{ℕ, ◌≡◌, Bool, cond, not, List, [], ◌∷◌, ltb, eqb, length, take, get_or}
 use Rattle.codec.specs.Order.{first_of}
 use Rattle.codec.specs.Octets.{laid}
 use Rattle.codec.specs.Ring.{Ring, read_ring, form_refusal, formed}

@@ -2,7 +2,6 @@
 use Rattle.std.specs.Prelude.{◌≡◌, List, [], ◌∷◌, ℕ, length}
 use Rattle.rtep_theorems.specs.Numbers.{information_of, written, limit_told, members_told}
 use Rattle.codec.specs.Octets.{laid}
-use Rattle.codec.specs.Ring.{limit}
 use Rattle.rtep_theorems.specs.Rings.{GoodRing, file_with}
 
 pub record ReadBack (values information packet : List ℕ) (r : ℕ) (told' : List ℕ) : Type 0 where

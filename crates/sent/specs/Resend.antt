@@ -1,5 +1,5 @@
 -- What is sent after the last timer.
-use Rattle.std.specs.Prelude.{not, List, [], ◌∷◌, ℕ, eqb}
+use Rattle.std.specs.Prelude.{not, [], ◌∷◌, ℕ, eqb}
 use Rattle.parts.specs.Choose.{pick}
 use Rattle.codec.specs.Order.{first_of}
 use Rattle.parts.specs.Live.{live_at}

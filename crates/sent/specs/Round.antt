@@ -1,5 +1,5 @@
 -- What is sent: starting a round, sending the head, granting, passing a token on.
-use Rattle.std.specs.Prelude.{not, List, [], ◌∷◌, ℕ, ltb, eqb}
+use Rattle.std.specs.Prelude.{[], ◌∷◌, ℕ, ltb, eqb}
 use Rattle.parts.specs.Choose.{pick}
 use Rattle.codec.specs.Order.{first_of}
 use Rattle.parts.specs.Live.{live_at}

@@ -1,5 +1,5 @@
 -- What is done to a station once it is decided: who leaves the send list, why and in which order; who is struck; what is stored.
-use Rattle.std.specs.Prelude.{Bool, true, false, not, ◌&&◌, ℕ, leb}
+use Rattle.std.specs.Prelude.{Bool, true, false, ℕ, leb}
 use Rattle.parts.specs.Choose.{pick}
 use Rattle.parts.specs.Messages.{none, pushed, split_by, best}
 use Rattle.parts.specs.Live.{without}

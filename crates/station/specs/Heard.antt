@@ -1,5 +1,5 @@
 -- "Heard frame, in this order": checks; acknowledgement; failing station; what stops; what is sent.
-use Rattle.std.specs.Prelude.{Bool, true, false, not, ◌||◌, List, [], ◌∷◌, ℕ, ◌+◌, leb, eqb}
+use Rattle.std.specs.Prelude.{Bool, true, false, not, [], ◌∷◌, ℕ, leb, eqb}
 use Rattle.parts.specs.Choose.{pick}
 use Rattle.codec.specs.Order.{first_of}
 use Rattle.parts.specs.Moves.{is_idle, is_waiting}

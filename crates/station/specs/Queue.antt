@@ -1,6 +1,5 @@
 -- "Queue. Accepted messages join the send list."
 use Rattle.std.specs.Prelude.{ℕ}
-use Rattle.parts.specs.Choose.{pick}
 use Rattle.parts.specs.Messages.{none, all, pushed, lowest_free, message_for}
 use Rattle.parts.specs.Live.{live_at}
 use Rattle.parts.specs.Refusals.{queue_refusal}

@@ -1,7 +1,6 @@
 -- "Start. Station 0 starts a round with frame number 0 and waits. Others become Idle."
-use Rattle.std.specs.Prelude.{ℕ, eqb}
+use Rattle.std.specs.Prelude.{eqb}
 use Rattle.parts.specs.Choose.{pick}
-use Rattle.parts.specs.Frames.{next}
 use Rattle.station.specs.Stations.{answered, moved, quiet, sending}
 use Rattle.station.specs.Sight.{sight}
 use Rattle.sent.specs.Round.{start_round}

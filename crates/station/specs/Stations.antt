@@ -1,30 +1,26 @@
 -- The station's fields, and what a call answers.
-use Rattle.std.specs.Prelude.{Bool, true, false, List, ℕ, ◌+◌, ◌-◌, leb, eqb}
+use Rattle.std.specs.Prelude.{Bool, ℕ, ◌+◌, ◌-◌, leb, eqb}
 use Rattle.parts.specs.Choose.{pick}
 use Rattle.parts.specs.Moves.{move_of, runs}
-use Rattle.parts.specs.Messages.{none, all, best}
+use Rattle.parts.specs.Messages.{none, best}
 use Rattle.parts.specs.Live.{full, successor}
 use Rattle.parts.specs.Frames.{flight}
 use Rattle.parts.specs.declared.moves.State.{State}
-use Rattle.parts.specs.declared.moves.State.TheVariants.{Offline, Idle, Waiting, Alone, Excluded}
+use Rattle.parts.specs.declared.moves.State.TheVariants.{Offline, Waiting}
 use Rattle.parts.specs.declared.moves.Event.{Event}
 use Rattle.parts.specs.declared.live.Live.{Live}
-use Rattle.parts.specs.declared.list.Message.{Message}
 use Rattle.parts.specs.declared.list.Messages.{Messages}
 use Rattle.parts.specs.declared.list.Best.{Best}
 use Rattle.parts.specs.declared.list.Which.TheVariants.{AnyWaiting}
-use Rattle.parts.specs.declared.frame.Whom.{Whom}
-use Rattle.parts.specs.declared.frame.Whom.TheVariants.{Nobody, Member}
-use Rattle.parts.specs.declared.frame.Frame.{Frame}
+use Rattle.parts.specs.declared.frame.Whom.TheVariants.{Nobody}
 use Rattle.parts.specs.declared.frame.Dispatch.{Dispatch}
-use Rattle.parts.specs.declared.frame.Dispatch.TheVariants.{Nothing, Sent}
+use Rattle.parts.specs.declared.frame.Dispatch.TheVariants.{Nothing}
 use Rattle.station.specs.declared.station.Handled.{Handled}
-use Rattle.station.specs.declared.station.Handled.TheVariants.{Never, Last}
+use Rattle.station.specs.declared.station.Handled.TheVariants.{Never}
 use Rattle.station.specs.declared.station.Turn.{Turn}
 use Rattle.station.specs.declared.station.Counts.{Counts}
 use Rattle.station.specs.declared.station.Station.{Station}
-use Rattle.station.specs.declared.station.Payload.{Payload}
-use Rattle.station.specs.declared.station.Payload.TheVariants.{NoPayload, Of}
+use Rattle.station.specs.declared.station.Payload.TheVariants.{NoPayload}
 use Rattle.station.specs.declared.station.Answer.{Answer}
 
 -- ---- a station of its parts, and one part anew

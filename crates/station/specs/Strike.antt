@@ -1,15 +1,13 @@
 -- Striking a station, giving messages up, and telling both.
-use Rattle.std.specs.Prelude.{Bool, ℕ}
+use Rattle.std.specs.Prelude.{ℕ}
 use Rattle.parts.specs.Choose.{pick}
 use Rattle.parts.specs.Messages.{none, best, split_by, pushed}
 use Rattle.parts.specs.Live.{without}
 use Rattle.parts.specs.Frames.{flight}
 use Rattle.station.specs.Stations.{with_live, with_sends, quiet, counted, awaited_of}
 use Rattle.parts.specs.declared.moves.State.{State}
-use Rattle.parts.specs.declared.list.Flight.{Flight}
 use Rattle.parts.specs.declared.list.Best.{Best}
 use Rattle.parts.specs.declared.list.Messages.{Messages}
-use Rattle.parts.specs.declared.list.Parts.{Parts}
 use Rattle.parts.specs.declared.list.Which.TheVariants.{WaitingFor, HasPlace}
 use Rattle.parts.specs.declared.frame.Whom.{Whom}
 use Rattle.station.specs.declared.station.Station.{Station}

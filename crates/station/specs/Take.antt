@@ -1,13 +1,11 @@
 -- "Take removes the best message of a channel: highest priority, earliest among equals."
-use Rattle.std.specs.Prelude.{Bool, ℕ}
-use Rattle.parts.specs.Choose.{pick}
+use Rattle.std.specs.Prelude.{ℕ}
 use Rattle.parts.specs.Messages.{none, best, split_by}
 use Rattle.parts.specs.Refusals.{take_refusal}
 use Rattle.station.specs.Stations.{with_receives, moved, unless}
 use Rattle.parts.specs.declared.moves.Event.TheVariants.{Take}
 use Rattle.parts.specs.declared.list.Message.{Message}
 use Rattle.parts.specs.declared.list.Best.{Best}
-use Rattle.parts.specs.declared.list.Parts.{Parts}
 use Rattle.parts.specs.declared.list.Which.TheVariants.{HasPlace, OnChannel}
 use Rattle.parts.specs.declared.frame.Whom.TheVariants.{Nobody}
 use Rattle.parts.specs.declared.frame.Dispatch.TheVariants.{Nothing}

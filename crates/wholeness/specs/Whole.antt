@@ -1,10 +1,10 @@
 -- "A record is whole if ...", for all but the record's octets.
-use Rattle.std.specs.Prelude.{Bool, true, false, not, ◌||◌, List, [], ◌∷◌, ◌++◌, ℕ, suc, ◌+◌, drop, ltb, leb, eqb}
+use Rattle.std.specs.Prelude.{Bool, true, false, not, ◌||◌, List, [], ◌∷◌, ◌++◌, ℕ, suc, drop, ltb, leb, eqb}
 use Rattle.codec.specs.Sizes.{most_information}
 use Rattle.parts.specs.Choose.{pick, all_of, every}
 use Rattle.parts.specs.Moves.{is_waiting, is_excluded}
 use Rattle.parts.specs.Messages.{all, flies, has_place, best}
-use Rattle.parts.specs.Live.{live_at, successor}
+use Rattle.parts.specs.Live.{live_at}
 use Rattle.parts.specs.Frames.{fit, flight}
 use Rattle.station.specs.Stations.{state_of, awaited_of, alone}
 use Rattle.parts.specs.declared.moves.State.{State}

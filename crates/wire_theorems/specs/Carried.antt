@@ -3,7 +3,6 @@ use Rattle.std.specs.Prelude.{◌≡◌, true, List, ℕ, length, take, get_or}
 use Rattle.parts.specs.Messages.{message_for}
 use Rattle.parts.specs.declared.list.Message.{Message}
 use Rattle.parts.specs.declared.request.Request.{Request}
-use Rattle.station.specs.Queue.{accepted}
 use Rattle.driver_buffers.specs.Places.{fits_place, carried_in}
 use Rattle.wire_theorems.specs.Store.{ToSend, send_payload}
 use Rattle.parts.specs.declared.frame.InformationFrame.{InformationFrame}

@@ -18,7 +18,7 @@ use Rattle.bench.specs.Delivery.{handed, deliver_to, others, step, step_on}
 use Rattle.bench.specs.Runs.{final, frames}
 use Rattle.bench.specs.declared.ring.Bench.{Bench}
 use Rattle.bench.proofs.Laws.Delivered.{handed_hears, others_hear}
-use Rattle.bench_theorems.specs.Quiet.{Member, sender, at_rest, Quiet}
+use Rattle.bench_theorems.specs.Quiet.{Member, Quiet}
 use Rattle.bench_theorems.proofs.Laws.Listening.{idle, rested}
 use Rattle.bench_theorems.proofs.Laws.Answers.{Waits as Awaiting, stands_listens, stands_waits, hears_at, silent_at}
 use Rattle.bench_theorems.proofs.Laws.Delivering.{step_delivers}

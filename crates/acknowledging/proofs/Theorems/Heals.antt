@@ -13,7 +13,7 @@ use Rattle.acknowledging.specs.Missing.{miss, Meanwhile}
 use Rattle.acknowledging.specs.Heals.{AtOnce, Heals, SparesOn, no_one}
 use Rattle.acknowledging.proofs.Laws.AfreshRuns.{none_retried}
 use Rattle.acknowledging.proofs.Laws.Calm.{reached_calm}
-use Rattle.acknowledging.proofs.Laws.Missed.{missed, miss_delivers, spares_missing, next_at_once, healed_missed, spares_next}
+use Rattle.acknowledging.proofs.Laws.Missed.{miss_delivers, spares_missing, next_at_once, healed_missed, spares_next}
 use Rattle.acknowledging.proofs.Laws.Lull.{Undisturbed, Lull, lull_missed}
 use Rattle.acknowledging.proofs.Laws.Meanwhile.{lull_meanwhile, harmless}
 use Rattle.acknowledging.proofs.Laws.Resent.{by_timer}

@@ -12,7 +12,6 @@ use Rattle.parts.specs.Choose.{pick}
 use Rattle.station.specs.Heard.{frame_rule}
 use Rattle.station.specs.Stations.{answered}
 use Rattle.parts.specs.declared.frame.Frame.{Frame}
-use Rattle.parts.specs.declared.frame.Dispatch.TheVariants.{Nothing}
 use Rattle.station.specs.declared.station.Station.{Station}
 use Rattle.station.specs.declared.station.Answer.{Answer}
 use Rattle.parts.proofs.Laws.Choose.{pick_true, pick_false}

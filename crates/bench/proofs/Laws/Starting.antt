@@ -1,8 +1,7 @@
 -- Laws of how a ring begins: turn by turn, from the last member down. Assumes nothing.
 use mathlib.Core.Path.{◌≡◌, refl, sym, ap, ◌∙◌}
 use mathlib.Core.List.{List}
-use Prim.Native.Nat.{ℕ, zero, suc, ◌+◌, ◌≤◌}
-use native.Mathlib.Omega.{arith}
+use Prim.Native.Nat.{ℕ, suc}
 use lib.ListN.{set, replicate}
 use Rattle.parts.specs.Live.{seats}
 use Rattle.station.specs.Stations.{made}

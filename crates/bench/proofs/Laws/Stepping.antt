@@ -15,7 +15,7 @@ use Rattle.parts.specs.declared.frame.Dispatch.TheVariants.{Nothing, Sent}
 use Rattle.parts.proofs.Laws.Choose.{pick_true, pick_false, pick_and}
 use Rattle.station.specs.declared.station.Station.{Station}
 use Rattle.bench.specs.Ring.{nobody}
-use Rattle.bench.specs.Delivery.{is_sent, is_quiet, handed, delivered, step, steps}
+use Rattle.bench.specs.Delivery.{is_sent, is_quiet, handed, delivered, steps}
 use Rattle.bench.specs.Rows.{rows_on}
 use Rattle.bench.specs.Text.{rows_text}
 use Rattle.bench.specs.Running.{steps_text, ran}

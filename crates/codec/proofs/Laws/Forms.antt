@@ -1,15 +1,15 @@
 -- Laws of a ring file in another form. Assumes nothing.
 use mathlib.Core.Path.{◌≡◌, refl, sym, ap, ◌∙◌}
-use mathlib.Core.Bool.{Bool, true, false, cond, not, ◌&&◌}
-use mathlib.Core.List.{List, [], ◌∷◌, ◌++◌}
-use Prim.Native.Nat.{ℕ, zero, suc, ◌+◌, ◌-◌, ◌*◌, ◌^◌, ◌≤◌, ◌<◌}
+use mathlib.Core.Bool.{true, false, not}
+use mathlib.Core.List.{List, ◌++◌}
+use Prim.Native.Nat.{ℕ, ◌+◌, ◌*◌, ◌^◌, ◌≤◌, ◌<◌}
 use native.Mathlib.Omega.{arith}
 use borrow.Author.Tests.{eq-eqb, ne_eqb}
 use lib.Dec.{eqb}
 use lib.ListN.{length, take, length-append}
 use Rattle.codec.specs.Octets.{octets, laid}
 use Rattle.codec.specs.declared.head.HeadBits.{HeadBits}
-use Rattle.codec.specs.Ring.{Ring, others, limit, head_bits, version_of, version, count, stride, file_octets, member_at, addresses_of, channels_of, ring_refusal, filled, ring_of, last_for, head_number, members_octets, ring_file, in_form, all_open, plain, cannot, form_refusal, formed, InForm}
+use Rattle.codec.specs.Ring.{others, limit, head_bits, version_of, version, count, stride, file_octets, member_at, addresses_of, channels_of, ring_refusal, filled, ring_of, last_for, head_number, members_octets, ring_file, in_form, all_open, plain, cannot, form_refusal, formed, InForm}
 use Rattle.codec.proofs.Laws.Octets.{length_octets, then_laid}
 use Rattle.codec.proofs.Laws.Ring.{length_addresses, length_channels, members_filled}
 use Rattle.codec.proofs.Laws.Members.{last_small, length_members}

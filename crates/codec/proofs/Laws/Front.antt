@@ -1,5 +1,5 @@
 -- What stands in front of other octets reads as it does alone. Assumes nothing.
-use mathlib.Core.Path.{◌≡◌, refl, sym, ap, ◌∙◌}
+use mathlib.Core.Path.{◌≡◌, refl, ap, ◌∙◌}
 use mathlib.Core.Bool.{Bool, true, false, cond, ◌||◌}
 use mathlib.Core.List.{List, [], ◌∷◌, ◌++◌}
 use Prim.Native.Nat.{ℕ, zero, suc, ◌+◌, ◌-◌, ◌*◌, ◌/◌, ◌%◌, ◌^◌, ◌≤◌, ◌<◌}
@@ -7,8 +7,8 @@ use native.Mathlib.Omega.{arith}
 use lib.Dec.{eqb}
 use lib.ListN.{length, get_or, get_or-append}
 use Rattle.codec.specs.Bits.{bit, bits}
-use Rattle.codec.specs.Ring.{Ring, form, others, count, stride, file_octets, member_at, all_channels, channels_at, channels_of, is_open, filled, ring_of, listens}
-use Rattle.codec.proofs.Laws.Ring.{member_within, octets_grow, stride_least}
+use Rattle.codec.specs.Ring.{form, count, stride, file_octets, member_at, all_channels, channels_at, channels_of, is_open, filled, ring_of, listens}
+use Rattle.codec.proofs.Laws.Ring.{member_within}
 
 module _ (f t : List ℕ) where
   bit_front : (j : ℕ) → j < length f * 8 → bit (f ++ t) j ≡ bit f j

@@ -1,8 +1,8 @@
 -- Laws of numbers in octets, each once for every width. Assumes nothing.
 use mathlib.Core.Path.{◌≡◌, refl, sym, ap, ◌∙◌}
 use mathlib.Core.List.{List, [], ◌∷◌, ◌++◌, append_assoc}
-use Prim.Native.Nat.{ℕ, zero, suc, ◌+◌, ◌-◌, ◌*◌, ◌/◌, ◌%◌, ◌^◌, ◌<◌, ◌≤◌, zero-le, suc-le-suc}
-use native.Mathlib.Nat.{pow-suc, pow-succ', mod-lt, mod-eq_of_lt, mod-one, mul_assoc, add-zero, add-suc, suc-add, add_assoc, mul-add-div_right, mul-add-mod_self_right, div-eq_of_lt, pow-le-pow_right, le_of_lt, le_trans}
+use Prim.Native.Nat.{ℕ, zero, suc, ◌+◌, ◌*◌, ◌/◌, ◌%◌, ◌^◌, ◌<◌, ◌≤◌, zero-le, suc-le-suc}
+use native.Mathlib.Nat.{pow-suc, pow-succ', mod-lt, mod-eq_of_lt, mod-one, mul_assoc, add-zero, add-suc, suc-add, add_assoc, mul-add-div_right, mul-add-mod_self_right, div-eq_of_lt, pow-le-pow_right, le_of_lt}
 use native.Mathlib.Numerals.{add-one}
 use native.Mathlib.Omega.{arith}
 use lib.Arith.{mod-mul, digits_lt}

@@ -1,21 +1,21 @@
 -- What a ring file that is written of good fields reads as. Assumes nothing.
 use mathlib.Core.Path.{◌≡◌, refl, sym, ap, ◌∙◌}
-use mathlib.Core.Bool.{Bool, true, false, cond, not, ◌||◌}
+use mathlib.Core.Bool.{Bool, true, false, cond, not}
 use mathlib.Core.List.{List, [], ◌∷◌, ◌++◌}
-use Prim.Native.Nat.{ℕ, zero, suc, ◌+◌, ◌-◌, ◌*◌, ◌/◌, ◌%◌, ◌^◌, ◌<◌, ◌≤◌, zero-le, suc-le-suc}
-use native.Mathlib.Nat.{mod-lt, mul-zero, mul-suc, add_comm, add_assoc}
+use Prim.Native.Nat.{ℕ, zero, suc, ◌+◌, ◌-◌, ◌*◌, ◌^◌, ◌<◌, ◌≤◌, zero-le, suc-le-suc}
+use native.Mathlib.Nat.{mul-zero, mul-suc, add_comm}
 use native.Mathlib.Omega.{arith}
 use borrow.Author.Tests.{le-ltb, eq-eqb, ne_eqb, eqb-true, eqb-false}
 use lib.Dec.{eqb}
 use lib.ListN.{length, take, drop, get_or, length-append}
 use lib.Seq.{take-length, take-suc, drop-drop, drop-append-add}
-use Rattle.codec.specs.Octets.{Octets, octets, number, number_at}
+use Rattle.codec.specs.Octets.{Octets, octets, number}
 use Rattle.codec.specs.Bits.{bits}
 use Rattle.codec.specs.Ring.{form, others, limit, last_bits, version, count, head_length, stride, file_octets, member_at, addresses_of, all_channels, channels_at, channels_of, is_form, last_bad, head_tests, head_refusal, last_for, member_octets, members_octets}
 use Rattle.codec.proofs.Laws.Octets.{back, octets_small, below_append}
 use Rattle.codec.proofs.Laws.Order.{first_passed}
 use Rattle.codec.proofs.Laws.Bits.{bits_below, bits_join, bits_octets}
-use Rattle.codec.proofs.Laws.Ring.{octets_grow, member_within, stride_least}
+use Rattle.codec.proofs.Laws.Ring.{member_within, stride_least}
 use Rattle.codec.proofs.Laws.Channels.{all_in, said_in}
 use Rattle.codec.proofs.Laws.Members.{length_member, length_members}
 

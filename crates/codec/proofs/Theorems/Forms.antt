@@ -7,10 +7,10 @@ use native.Mathlib.Nat.{div-one, div-eq_of_lt, div-div-eq-div-mul}
 use native.Mathlib.Omega.{arith}
 use borrow.Author.Tests.{ne_eqb, eqb-true, eqb-false, not-false, ltb-true, ltb-false}
 use lib.Dec.{eqb, ltb}
-use lib.ListN.{length, take, get_or}
+use lib.ListN.{length, get_or}
 use Rattle.codec.specs.Order.{first_of}
 use Rattle.codec.specs.Octets.{Octets, octets}
-use Rattle.codec.specs.Ring.{Ring, RingRead, form, others, limit, last_bits, version, count, addresses_of, all_channels, channels_at, channels_of, is_open, is_form, last_bad, last_number, head_tests, addresses_tests, head_refusal, addresses_refusal, ring_refusal, filled, ring_of, read_ring, listens, last_for, members_octets, ring_file, in_form, all_open, plain, cannot, form_refusal, formed, ThereAndBack, NotPlain}
+use Rattle.codec.specs.Ring.{Ring, RingRead, form, others, limit, last_bits, version, count, addresses_of, all_channels, channels_at, channels_of, is_open, is_form, last_bad, last_number, head_tests, addresses_tests, head_refusal, addresses_refusal, ring_refusal, filled, ring_of, listens, last_for, members_octets, ring_file, in_form, all_open, plain, cannot, form_refusal, formed, ThereAndBack, NotPlain}
 use Rattle.codec.proofs.Laws.Order.{Apart, none_gives, first_passed}
 use Rattle.codec.proofs.Laws.Bits.{bits_below}
 use Rattle.codec.proofs.Laws.Ring.{HeadGood, head_good, head_passed, refused_late, read_number, read_good, length_addresses, length_channels, addresses_fit}

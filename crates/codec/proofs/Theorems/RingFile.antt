@@ -2,10 +2,9 @@
 -- Assumes nothing.
 use mathlib.Core.Path.{◌≡◌, refl, sym, ap, ◌∙◌}
 use mathlib.Core.Bool.{Bool, true, false, cond, not}
-use mathlib.Core.List.{List, [], ◌∷◌, ◌++◌, append_assoc, append-nil}
-use Prim.Native.Nat.{ℕ, zero, suc, ◌+◌, ◌-◌, ◌*◌, ◌^◌, ◌≤◌}
+use mathlib.Core.List.{List, [], ◌++◌, append-nil}
+use Prim.Native.Nat.{ℕ, zero, suc, ◌+◌, ◌*◌, ◌^◌, ◌≤◌}
 use native.Mathlib.Nat.{mul-zero, mul-suc}
-use native.Mathlib.Numerals.{add-one}
 use native.Mathlib.Omega.{arith}
 use borrow.Author.Tests.{eqb-true, not-false}
 use lib.Dec.{eqb}
@@ -13,11 +12,11 @@ use lib.ListN.{length, take, drop, length-drop, take-append-drop}
 use lib.Seq.{take-add, take_all, drop-drop}
 use Rattle.codec.specs.Octets.{Octets, octets, number_at}
 use Rattle.codec.specs.Bits.{bits}
-use Rattle.codec.specs.Ring.{form, others, limit, last_bits, version, count, head_length, stride, file_octets, member_at, addresses_of, channels_at, channels_of, last_bad, ring_of, read_ring, filled, head_number, member_octets, members_octets, ring_file}
+use Rattle.codec.specs.Ring.{form, others, limit, last_bits, version, count, head_length, stride, member_at, addresses_of, channels_at, channels_of, ring_of, read_ring, filled, head_number, members_octets, ring_file}
 use Rattle.codec.proofs.Laws.Octets.{field_again}
 use Rattle.codec.proofs.Laws.Bits.{bits_join, bits_octets}
 use Rattle.codec.proofs.Laws.Members.{members_snoc}
-use Rattle.codec.proofs.Laws.Ring.{HeadGood, member_within, octets_step, head_good, head_passed, read_zero, read_good, length_addresses, length_channels, members_filled}
+use Rattle.codec.proofs.Laws.Ring.{HeadGood, member_within, head_good, head_passed, read_zero, read_good, length_addresses, length_channels, members_filled}
 
 -- ---- the head
 

@@ -1,6 +1,6 @@
 -- Laws of the store's places. Assumes nothing.
-use mathlib.Core.Path.{◌≡◌, refl, sym, ap, ◌∙◌}
-use mathlib.Core.Bool.{Bool, true}
+use mathlib.Core.Path.{◌≡◌}
+use mathlib.Core.Bool.{true}
 use Prim.Native.Nat.{ℕ, ◌<◌, ◌≤◌}
 use borrow.Author.Tests.{ltb-true, leb-true, eqb-true}
 use Rattle.parts.proofs.Laws.Tests.{held}

@@ -22,7 +22,6 @@ use Rattle.station.proofs.Laws.Decide.{Decides, done_so}
 use Rattle.station.specs.declared.rules.deeds.Verdict.{Verdict}
 use Rattle.station.specs.declared.station.Payload.{Payload}
 use Rattle.station.specs.declared.station.Payload.TheVariants.{NoPayload}
-use Rattle.wholeness.specs.Whole.{whole}
 use Rattle.parts.specs.declared.frame.Frame.TheVariants.{Token, Transmit, Information}
 use Rattle.parts.specs.declared.frame.Dispatch.{Dispatch}
 use Rattle.parts.specs.declared.frame.Dispatch.TheVariants.{Nothing, Sent}

@@ -15,7 +15,7 @@ use Rattle.packet_codec.specs.declared.reading.Read.{Read}
 use Rattle.packet_codec.specs.declared.reading.Read.TheVariants.{Refused, Good}
 use Rattle.parts.specs.Moves.{move_of, runs}
 use Rattle.station.specs.Stations.{state_of, answered, moved, unless}
-use Rattle.station.specs.Heard.{checks, frame_rule}
+use Rattle.station.specs.Heard.{checks}
 use Rattle.parts.specs.declared.list.Message.{Message}
 use Rattle.parts.specs.declared.frame.Frame.{Frame}
 use Rattle.parts.specs.declared.moves.Event.TheVariants.{Heard}

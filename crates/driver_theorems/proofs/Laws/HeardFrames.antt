@@ -1,5 +1,5 @@
 -- The frame of a packet that was read is fit for the ring, and its numbers are small. Assumes nothing.
-use mathlib.Core.Path.{◌≡◌, refl, sym, ap, ◌∙◌}
+use mathlib.Core.Path.{◌≡◌, refl}
 use mathlib.Core.Bool.{Bool, true, false, not, cond, false≢true}
 use mathlib.Core.List.{List}
 use Prim.Native.Nat.{ℕ, ◌<◌, ◌≤◌, ◌%◌}
@@ -9,7 +9,7 @@ use lib.ListN.{length}
 use borrow.Author.Tests.{ltb-true, ltb-false, lt-leb, lt-ltb, le-leb, le-ltb, not-false}
 use Rattle.codec.specs.Octets.{Octets}
 use Rattle.codec.specs.Ring.{position, is_member}
-use Rattle.packet_codec.specs.Packet.{belongs, failing_bad, field_tests, write_tests, length_tests, information_length, information_part, length_from, Fit, read_packet}
+use Rattle.packet_codec.specs.Packet.{belongs, failing_bad, field_tests, write_tests, length_tests, information_length, information_part, length_from, read_packet}
 use Rattle.packet_codec.specs.declared.packet.Packet.{Packet}
 use Rattle.packet_codec.specs.declared.packet.Packet.TheVariants.{Token as TokenOf, Transmit as TransmitOf, Information as InformationOf}
 use Rattle.packet_codec.specs.declared.fields.Looked.TheVariants.{Sound}
@@ -21,7 +21,6 @@ use Rattle.packet_codec.proofs.Theorems.WriteRead.{write_after_read}
 use Rattle.parts.specs.Choose.{pick}
 use Rattle.parts.specs.Frames.{fit, member_or_nobody}
 use Rattle.parts.specs.declared.frame.Whom.TheVariants.{Nobody, Member}
-use Rattle.parts.specs.declared.frame.Frame.{Frame}
 use Rattle.station_theorems.specs.Small.{SmallFrame}
 use Rattle.driver_buffers.specs.Packets.{whom_at, frame_of}
 

@@ -1,14 +1,14 @@
 -- What a making that is done says: the record's length, a good ring file, the station a member. Assumes nothing.
-use mathlib.Core.Path.{◌≡◌, refl, sym, ap, ◌∙◌}
+use mathlib.Core.Path.{◌≡◌, refl, ap, ◌∙◌}
 use mathlib.Core.Bool.{Bool, true, false, not, cond}
-use mathlib.Core.List.{List, [], ◌∷◌, ◌++◌, append-nil}
+use mathlib.Core.List.{List, ◌++◌, append-nil}
 use Prim.Native.Nat.{ℕ, ◌+◌, ◌<◌, ◌≤◌}
 use native.Mathlib.Omega.{arith}
 use lib.Dec.{eqb}
-use lib.ListN.{length, take, drop, length-append, length-take, drop_of_length-le}
+use lib.ListN.{length, length-append, length-take, drop_of_length-le}
 use borrow.Author.Tests.{eqb-true, eqb-false, not-false, not-true, ltb-true}
 use Rattle.codec.specs.Octets.{laid}
-use Rattle.codec.specs.Ring.{Ring, RingRead, read_ring, position, is_member, ring_of, count, others, limit}
+use Rattle.codec.specs.Ring.{Ring, RingRead, read_ring, position, is_member, ring_of, others, limit}
 use Rattle.codec.proofs.Laws.Bits.{bits_below}
 use Rattle.codec.proofs.Laws.Ring.{few_members, read_zero, read_good, head_passed, head_good}
 use Rattle.station.specs.declared.station.Station.{Station}

@@ -5,7 +5,6 @@ use mathlib.Core.List.{List, [], ◌∷◌}
 use Prim.Native.Nat.{ℕ}
 use lib.Dec.{leb, eqb}
 use Rattle.codec.specs.Order.{first_of}
-use Rattle.codec.specs.Ring.{position}
 use Rattle.packet_codec.specs.Packet.{read_packet, read_number}
 use Rattle.packet_codec.specs.declared.reading.Read.{Read}
 use Rattle.packet_codec.specs.declared.reading.Read.TheVariants.{Refused, Good}

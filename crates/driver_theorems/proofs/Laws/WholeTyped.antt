@@ -1,14 +1,12 @@
 -- A whole station whose numbers are small is one that the code can hold: every field is within its type. Assumes nothing.
-use mathlib.Core.Path.{◌≡◌, refl, sym, ap, ◌∙◌}
+use mathlib.Core.Path.{◌≡◌, refl, sym, ◌∙◌}
 use mathlib.Core.Bool.{Bool, true, false}
-use mathlib.Core.List.{List}
 use Prim.Native.Nat.{ℕ, suc, ◌<◌, ◌≤◌}
 use native.Mathlib.Omega.{arith}
-use lib.Dec.{ltb, leb}
+use lib.Dec.{ltb}
 use lib.ListN.{length, get_or, take, drop, length-take, get_or-eq_default}
 use lib.Seq.{get_or-take, split_at}
-use borrow.Author.Tests.{ltb-true, ltb-false, leb-true}
-use Rattle.parts.specs.Choose.{every}
+use borrow.Author.Tests.{ltb-true, ltb-false}
 use Rattle.parts.specs.Messages.{all, blank}
 use Rattle.station.specs.Stations.{awaited_of}
 use Rattle.parts.specs.declared.list.Message.{Message}
@@ -25,11 +23,10 @@ use Rattle.station.specs.declared.station.Station.{Station}
 use Rattle.station_theorems.specs.Shaped.{WholeStation}
 use Rattle.station_theorems.specs.Small.{Small, SmallList, SmallDispatch, SmallHandled, SmallFrame, small_message}
 use Rattle.station_theorems.specs.GoodList.{GoodList, GoodMessage}
-use Rattle.station_theorems.specs.Awaited.{Awaited, Proper, Carries}
-use Rattle.station_theorems.specs.Whole.{Whole}
+use Rattle.station_theorems.specs.Awaited.{Proper}
 use Rattle.station_theorems.proofs.Laws.Members.{standing, each_member}
 use Rattle.station_theorems.proofs.Theorems.Whole.{whole_is}
-use Rattle.record_theorems.specs.Typed.{TypedMessage, TypedList, TypedWhom, TypedToken, TypedTransmit, TypedInformation, TypedFrame, TypedDispatch, TypedHandled, TypedTurn, Typed}
+use Rattle.record_theorems.specs.Typed.{TypedMessage, TypedList, TypedWhom, TypedFrame, TypedDispatch, TypedHandled, Typed}
 
 -- ---- a list
 

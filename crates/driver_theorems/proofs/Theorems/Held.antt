@@ -1,26 +1,18 @@
 -- "A driver that leaves its record alone never sees 35": a record made by rtep_make and changed by no other than the calls is whole
 -- ever after, and each call acts as its rule on the station that the record holds. Assumes nothing.
 use mathlib.Core.Path.{◌≡◌, refl, sym, ap, subst, ◌∙◌}
-use mathlib.Core.Bool.{Bool, true, false, not, cond}
-use mathlib.Core.List.{List, [], ◌∷◌, ◌++◌, append-nil}
-use Prim.Native.Nat.{ℕ, ◌+◌, ◌<◌, ◌≤◌}
-use native.Mathlib.Omega.{arith}
+use mathlib.Core.Bool.{Bool, true, false, cond}
+use mathlib.Core.List.{List}
+use Prim.Native.Nat.{ℕ}
 use lib.Dec.{eqb}
-use lib.ListN.{length, take, drop, length-append}
-use borrow.Author.Tests.{eqb-true, eqb-false, not-false, ltb-true}
-use Rattle.codec.specs.Octets.{Octets, laid}
+use lib.ListN.{length}
+use Rattle.codec.specs.Octets.{Octets}
 use Rattle.packet_codec.specs.Packet.{kept, read_packet}
-use Rattle.codec.specs.Ring.{Ring, RingRead, read_ring, position, ring_of, count, limit, others}
+use Rattle.codec.specs.Ring.{Ring, read_ring, position}
 use Rattle.packet_codec.specs.declared.reading.Read.{Read}
 use Rattle.packet_codec.specs.declared.reading.Read.TheVariants.{Refused, Good}
-use Rattle.parts.specs.declared.moves.Event.TheVariants.{Heard}
 use Rattle.parts.specs.Frames.{fit}
 use Rattle.station.specs.Stations.{answered, moved, unless}
-use Rattle.station.specs.Start.{start_rule}
-use Rattle.station.specs.Heard.{checks, frame_rule}
-use Rattle.station.specs.Timer.{timer_rule}
-use Rattle.station.specs.Queue.{queue_rule}
-use Rattle.station.specs.Take.{take_rule}
 use Rattle.station.specs.declared.station.Station.{Station}
 use Rattle.station.specs.declared.station.Answer.{Answer}
 use Rattle.station_theorems.specs.Shaped.{WholeStation}
@@ -29,15 +21,14 @@ use Rattle.station_theorems.proofs.Laws.Small.{pick_keeps}
 use Rattle.station_theorems.proofs.Theorems.StaysSmall.{start_keeps_small, frame_small, timer_small, queue_small, take_small, made_small}
 use Rattle.station_theorems.proofs.Theorems.MadeWhole.{made_whole}
 use Rattle.station_theorems.proofs.Theorems.Reached.{calls_keep_whole}
-use Rattle.records.specs.Layout.{record_length, ring_room, own_at}
-use Rattle.records.specs.Record.{station_octets, ring_octets, record_octets, read_record}
+use Rattle.records.specs.Record.{record_octets, read_record}
 use Rattle.record_theorems.specs.Typed.{Typed}
 use Rattle.record_theorems.specs.RoundTrip.{ReadsAs}
 use Rattle.record_theorems.proofs.Theorems.ReadWrite.{read_after_write}
 use Rattle.record_theorems.proofs.Theorems.Anew.{read_anew}
 use Rattle.parts.specs.declared.request.Request.{Request}
 use Rattle.driver_buffers.specs.Packets.{frame_of}
-use Rattle.driver_calls.specs.Calls.{members_of, ring_in, station_in, record_with, made_from, Making, Starting, Hearing, Timing, Queueing, Taking, start_answer, timer_answer, frame_answer, queue_answer, take_answer, heard_then, packet_rule}
+use Rattle.driver_calls.specs.Calls.{members_of, ring_in, station_in, record_with, made_from, Making, start_answer, timer_answer, frame_answer, queue_answer, take_answer, heard_then, packet_rule}
 use Rattle.driver_theorems.specs.Held.{Held, Sure, by_make, by_start, by_frame, by_timer, by_queue, by_take, Made, Keeps}
 use Rattle.driver_theorems.proofs.Laws.WholeTyped.{whole_typed}
 use Rattle.driver_theorems.proofs.Laws.HeardFrames.{heard_fit}

@@ -1,5 +1,5 @@
 -- A record that is held is never refused with 35: no call on it gives that number, whatever it is handed. Assumes nothing.
-use mathlib.Core.Path.{◌≡◌, refl, sym, ap, ◌∙◌}
+use mathlib.Core.Path.{◌≡◌}
 use mathlib.Core.Bool.{Bool, true, false, not, cond}
 use mathlib.Core.List.{List, [], ◌∷◌}
 use Prim.Native.Nat.{ℕ}
@@ -14,7 +14,6 @@ use Rattle.parts.specs.declared.request.Request.{Request}
 use Rattle.parts.specs.declared.frame.Dispatch.{Dispatch}
 use Rattle.parts.specs.declared.frame.Dispatch.TheVariants.{Nothing, Sent}
 use Rattle.parts.specs.declared.list.Best.{Best}
-use Rattle.station.specs.Strike.{Struck}
 use Rattle.station.specs.Stations.{awaited_of, alone}
 use Rattle.station.specs.Start.{started, start_rule}
 use Rattle.station.specs.Timer.{timer_rule, on_timer, silence, after_strike, unanswered}

@@ -15,7 +15,7 @@ use Rattle.packet_codec.specs.declared.fields.Looked.{Looked}
 use Rattle.packet_codec.specs.declared.fields.Looked.TheVariants.{Sound, Bad}
 use Rattle.packet_codec.specs.declared.packet.Packet.{Packet}
 use Rattle.packet_codec.specs.declared.packet.Packet.TheVariants.{Token, Transmit, Information}
-use Rattle.packet_codec.specs.Packet.{field_tests, pad_tests, length_tests, rest_tests, read_tests, write_tests, information_length, pad_from, length_from, size, is_bad, identifier, short_of, head_of, packet_of, looked_read, read_packet, read_number, look_number, refusal_in, write_refusal}
+use Rattle.packet_codec.specs.Packet.{field_tests, pad_tests, length_tests, rest_tests, read_tests, write_tests, information_length, pad_from, length_from, size, is_bad, identifier, short_of, head_of, packet_of, looked_read, read_packet, read_number, look_number, refusal_in}
 use Rattle.packet_codec.specs.declared.reading.Refusal.{Refusal}
 use Rattle.packet_codec.specs.declared.reading.Refusal.TheVariants.{Size, Identifier, BadAt}
 use Rattle.packet_codec.specs.declared.reading.Read.{Read}

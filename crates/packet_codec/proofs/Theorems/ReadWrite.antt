@@ -1,23 +1,22 @@
 -- Reading after writing: for every packet fit to write, its octets read as the packet, with its information in its place. Assumes nothing.
 use mathlib.Core.Path.{◌≡◌, refl, sym, ap, ◌∙◌}
 use mathlib.Core.Bool.{Bool, true, false, cond, not}
-use mathlib.Core.List.{List, [], ◌∷◌, ◌++◌, append-nil}
-use Prim.Native.Nat.{ℕ, zero, suc, ◌+◌, ◌-◌, ◌*◌, ◌/◌, ◌%◌, ◌^◌, ◌<◌, ◌≤◌, max}
+use mathlib.Core.List.{List, [], ◌∷◌, ◌++◌}
+use Prim.Native.Nat.{ℕ, zero, suc, ◌+◌, ◌-◌, ◌/◌, ◌%◌, ◌^◌, ◌<◌, ◌≤◌, max}
 use native.Mathlib.Omega.{arith}
-use borrow.Author.Tests.{lt-ltb, le-ltb, le-leb, eq-eqb, ltb-true, eqb-true, not-false, ltb-false}
-use lib.Dec.{ltb, leb, eqb}
-use lib.ListN.{length, take, drop, get_or, length-append, length-replicate, replicate, get_or-replicate}
+use borrow.Author.Tests.{le-leb, eq-eqb, ltb-true, eqb-true, not-false, ltb-false}
+use lib.Dec.{ltb, eqb}
+use lib.ListN.{length, get_or, length-append}
 use lib.Seq.{take_at, get_or-drop, get_or-append-add}
 use Rattle.codec.specs.Order.{first_of}
-use Rattle.codec.specs.Octets.{octets, number, number_at, zeros}
+use Rattle.codec.specs.Octets.{octets, number, zeros}
 use Rattle.packet_codec.specs.declared.packet.Short.{Short}
 use Rattle.packet_codec.specs.declared.packet.Head.{Head}
 use Rattle.packet_codec.specs.declared.packet.Packet.{Packet}
 use Rattle.packet_codec.specs.declared.packet.Packet.TheVariants.{Token, Transmit, Information}
-use Rattle.packet_codec.specs.declared.fields.Looked.TheVariants.{Sound, Bad}
-use Rattle.packet_codec.specs.declared.reading.Read.{Read}
+use Rattle.packet_codec.specs.declared.fields.Looked.TheVariants.{Sound}
 use Rattle.packet_codec.specs.declared.reading.Read.TheVariants.{Good}
-use Rattle.packet_codec.specs.Packet.{short_of, head_of, packet_of, packet_octets, short_octets, head_octets, information_octets, information_in, information_part, information_length, identifier, pad_from, length_from, size, belongs, failing_bad, field_tests, pad_tests, length_tests, rest_tests, write_tests, read_tests, Fit, read_packet, is_bad}
+use Rattle.packet_codec.specs.Packet.{short_of, head_of, packet_of, packet_octets, short_octets, head_octets, information_octets, information_in, information_part, information_length, identifier, pad_from, length_from, size, belongs, failing_bad, field_tests, pad_tests, length_tests, rest_tests, write_tests, read_tests, Fit, read_packet}
 use Rattle.packet_codec.specs.Typed.{Typed, TypedPacket}
 use Rattle.packet_codec.specs.RoundTrip.{ReadsAs}
 use Rattle.codec.proofs.Laws.Octets.{back, length_zeros}

@@ -2,26 +2,23 @@
 use mathlib.Core.Path.{◌≡◌, refl, sym, ap, ◌∙◌, subst}
 use mathlib.Core.Bool.{Bool, true, false, cond, not}
 use mathlib.Core.List.{List, [], ◌∷◌, ◌++◌}
-use Prim.Native.Nat.{ℕ, zero, suc, ◌+◌, ◌-◌, ◌*◌, ◌/◌, ◌%◌, ◌^◌, ◌<◌, ◌≤◌, max}
+use Prim.Native.Nat.{ℕ, ◌+◌, ◌-◌, ◌/◌, ◌%◌, ◌^◌, ◌<◌, ◌≤◌, max}
 use native.Mathlib.Omega.{arith}
-use borrow.Author.Tests.{ltb-false, le-leb, eqb-true, eqb-false, eq-eqb, not-false}
-use lib.Dec.{ltb, leb, eqb}
+use borrow.Author.Tests.{le-leb, eqb-true, eqb-false, eq-eqb, not-false}
+use lib.Dec.{leb, eqb}
 use lib.ListN.{length, take, drop, get_or, length-drop, take-append-drop}
 use lib.Seq.{drop-cons, drop-drop, take_all}
 use Rattle.codec.specs.Order.{first_of}
 use Rattle.codec.specs.Octets.{Octets, octets, number_at, zeros}
-use Rattle.packet_codec.specs.declared.packet.Short.{Short}
-use Rattle.packet_codec.specs.declared.packet.Head.{Head}
 use Rattle.packet_codec.specs.declared.packet.Packet.{Packet}
 use Rattle.packet_codec.specs.declared.packet.Packet.TheVariants.{Token, Transmit, Information}
-use Rattle.packet_codec.specs.declared.fields.Looked.TheVariants.{Sound, Bad}
-use Rattle.packet_codec.specs.declared.reading.Read.{Read}
+use Rattle.packet_codec.specs.declared.fields.Looked.TheVariants.{Sound}
 use Rattle.packet_codec.specs.declared.reading.Read.TheVariants.{Good}
-use Rattle.packet_codec.specs.Packet.{identifier, short_of, head_of, packet_of, short_octets, head_octets, information_octets, packet_octets, information_in, information_part, information_length, pad_from, length_from, size, field_tests, pad_tests, length_tests, rest_tests, read_tests, write_tests, Fit, read_packet}
+use Rattle.packet_codec.specs.Packet.{identifier, short_of, head_of, packet_of, short_octets, information_octets, packet_octets, information_in, information_part, information_length, pad_from, length_from, size, field_tests, pad_tests, length_tests, rest_tests, read_tests, write_tests, Fit, read_packet}
 use Rattle.packet_codec.specs.RoundTrip.{WritesAs}
 use Rattle.packet_codec.specs.Typed.{Typed}
 use Rattle.codec.proofs.Laws.Octets.{field_then, octets_take, octets_drop, number_below, length_part}
-use Rattle.codec.proofs.Laws.Order.{NoneHolds, none_gives, none_holds, none_append, none_split, first_passed}
+use Rattle.codec.proofs.Laws.Order.{NoneHolds, none_holds, none_append, none_split, first_passed}
 use Rattle.packet_codec.proofs.Laws.Packet.{good_late, looked_good, read_apart, pad_is}
 
 -- ---- what reading says

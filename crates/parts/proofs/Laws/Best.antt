@@ -1,5 +1,5 @@
 -- Laws of the best message of a list from which others have gone: who does not compete may be passed over before or after. Assumes nothing.
-use Rattle.std.proofs.Common.{◌≡◌, ℕ, ◌<◌, Bool, true, false, not, ◌&&◌, ltb, List, [], ◌∷◌, sym, refl, ap, ◌∙◌}
+use Rattle.std.proofs.Common.{◌≡◌, Bool, true, false, not, ◌&&◌, ltb, List, [], ◌∷◌, sym, refl, ap, ◌∙◌}
 use mathlib.Core.Bool.{false≢true}
 use lib.Seq.{take-append_seam}
 use Rattle.parts.specs.Choose.{pick}

@@ -1,6 +1,6 @@
 -- Laws of choices by tests. Assumes nothing.
-use Rattle.std.proofs.Common.{◌≡◌, Bool, true, false, List, [], ◌∷◌, ◌++◌, sym, refl, ap, ◌∙◌}
-use Rattle.parts.specs.Choose.{pick, all_of, every}
+use Rattle.std.proofs.Common.{◌≡◌, Bool, true, false, refl}
+use Rattle.parts.specs.Choose.{pick}
 
 module _ {A : Type 0} where
   pub pick_true : {b : Bool} (x y : A) → b ≡ true → pick b x y ≡ x

@@ -1,7 +1,7 @@
 -- Laws of messages and their lists. Assumes nothing.
 use Rattle.std.proofs.Common.{◌≡◌, ℕ, suc, ◌+◌, ◌-◌, ◌<◌, ◌≤◌, Bool, true, false, ltb, List, [], ◌∷◌, ◌++◌, map, length, get_or, take, drop, set, replicate, sym, refl, ap, ◌∙◌, append-nil, add-one, arith, length-append, drop_of_length-le, length-take, take_all, drop-cons, get_or-take, take-suc, ltb-false, ltb-true, le-ltb, lt-ltb, eq-eqb, ne_eqb}
 use lib.ListN.{length-map}
-use lib.Seq.{take-nil, set_at, append_snoc}
+use lib.Seq.{set_at, append_snoc}
 use Rattle.parts.specs.Choose.{pick}
 use Rattle.parts.specs.declared.list.Message.{Message}
 use Rattle.parts.specs.declared.list.Messages.{Messages}

@@ -6,7 +6,7 @@ use Prim.Native.Nat.{ℕ, ◌+◌, ◌^◌, ◌<◌, ◌≤◌}
 use native.Mathlib.Nat.{add-zero, add_assoc}
 use native.Mathlib.Omega.{arith}
 use lib.ListN.{length, drop}
-use Rattle.codec.specs.Octets.{Octets, octets, number, number_at}
+use Rattle.codec.specs.Octets.{Octets, octets, number_at}
 use Rattle.codec.proofs.Laws.Octets.{field_then, length_octets}
 use Rattle.record_theorems.proofs.Laws.Goes.{Goes, goes_join, goes_first, goes_second, goes_number}
 

@@ -1,12 +1,12 @@
 -- A state, a handled number, an awaited frame: what is read of the numbers that stand for one is that one again. Assumes nothing.
 use mathlib.Core.Path.{◌≡◌, refl, ap}
-use mathlib.Core.Bool.{Bool, true}
+use mathlib.Core.Bool.{true}
 use mathlib.Core.List.{List, [], ◌∷◌}
 use Prim.Native.Nat.{ℕ, ◌+◌, ◌-◌, ◌<◌}
 use native.Mathlib.Omega.{arith}
 use borrow.Author.Tests.{eq-eqb, eqb-true, ne_eqb, le-ltb}
 use lib.Dec.{eqb}
-use Rattle.parts.specs.Choose.{pick, all_of}
+use Rattle.parts.specs.Choose.{pick}
 use Rattle.parts.specs.Moves.{state_number}
 use Rattle.sent.specs.Round.{bid_of, passing}
 use Rattle.parts.specs.declared.moves.State.{State}

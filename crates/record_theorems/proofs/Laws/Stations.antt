@@ -5,7 +5,7 @@ use mathlib.Core.List.{List, [], ◌∷◌, ◌++◌}
 use Prim.Native.Nat.{ℕ, ◌+◌, ◌-◌, ◌<◌}
 use native.Mathlib.Omega.{arith}
 use lib.ListN.{length, length-append}
-use Rattle.codec.specs.Octets.{Octets, octets, number_at}
+use Rattle.codec.specs.Octets.{Octets, number_at}
 use Rattle.station.specs.declared.station.Station.{Station}
 use Rattle.records.specs.Layout.{own_at, lost_at, given_up_at, live_at, sends_at, receives_at, record_length}
 use Rattle.records.specs.Fields.{turn_at, turn_good, turn_octets, live_from, flags_good, live_octets, messages_at, messages_octets}

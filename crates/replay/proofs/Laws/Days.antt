@@ -2,33 +2,30 @@
 use mathlib.Core.Path.{◌≡◌, refl, sym, ap, ◌∙◌}
 use mathlib.Core.Bool.{Bool, true, false, not, ◌&&◌, false≢true}
 use mathlib.Core.List.{List, [], ◌∷◌, ◌++◌, append-nil}
-use Prim.Native.Nat.{ℕ, zero, suc, ◌+◌, ◌<◌, ◌≤◌}
+use Prim.Native.Nat.{ℕ, suc, ◌+◌, ◌<◌, ◌≤◌}
 use native.Mathlib.Numerals.{add-one}
 use native.Mathlib.Omega.{arith}
-use lib.Dec.{ltb, leb, eqb}
-use lib.ListN.{length, get_or, take, drop, set, length-append}
+use lib.Dec.{ltb, eqb}
+use lib.ListN.{length, get_or, drop, set, length-append}
 use lib.Seq.{set-get_or, take_all}
-use borrow.Author.Tests.{eq-eqb, ne_eqb, ltb-true, ltb-false, lt-ltb, le-ltb}
+use borrow.Author.Tests.{eq-eqb, ne_eqb, ltb-true}
 use Rattle.parts.specs.Choose.{pick}
-use Rattle.parts.specs.Live.{seats}
 use Rattle.parts.specs.Frames.{failing_of}
 use Rattle.parts.specs.declared.live.Live.{Live}
-use Rattle.parts.specs.declared.frame.Frame.{Frame}
 use Rattle.parts.specs.declared.frame.Dispatch.{Dispatch}
 use Rattle.parts.specs.declared.frame.Dispatch.TheVariants.{Nothing, Sent}
 use Rattle.parts.specs.declared.frame.Whom.TheVariants.{Nobody}
-use Rattle.parts.specs.declared.moves.Event.TheVariants as moves
 use Rattle.parts.specs.declared.request.Request.{Request}
 use Rattle.parts.proofs.Laws.Choose.{pick_true, pick_false}
-use Rattle.station.specs.Stations.{moved, unless, answered}
-use Rattle.station.specs.Queue.{queue_rule, queue_number, accepted}
+use Rattle.station.specs.Stations.{moved, unless}
+use Rattle.station.specs.Queue.{queue_rule, accepted}
 use Rattle.station.specs.Timer.{timer_rule}
 use Rattle.station.specs.declared.station.Station.{Station}
 use Rattle.station.specs.declared.station.Answer.{Answer}
 use Rattle.bench.specs.Ring.{nobody}
 use Rattle.bench.specs.Rows.{row_on}
-use Rattle.bench.specs.Text.{rows_text, answer_text}
-use Rattle.bench.specs.Delivery.{handed, delivered, others, hearing, is_quiet}
+use Rattle.bench.specs.Text.{rows_text}
+use Rattle.bench.specs.Delivery.{handed, delivered, hearing}
 use Rattle.bench.specs.Delivery.{is_sent}
 use Rattle.bench.specs.Table.{hears, no_frame}
 use Rattle.bench.specs.declared.table.Handing.{Handing}
@@ -36,18 +33,17 @@ use Rattle.capture.specs.declared.record.Event.{Event}
 use Rattle.capture.specs.declared.record.Event.TheVariants.{Delivered, LostForAddressee, LostForAll, Timer, Queue}
 use Rattle.capture.specs.declared.record.Read.{Read}
 use Rattle.capture.specs.declared.record.Read.TheVariants.{End, Refused, Good}
-use Rattle.day.specs.Day.{Day, most_frames, member_at, joining}
-use Rattle.day.specs.Records.{nobody_hears, hearers, reply_to, after_frame, take_frame, after_call, timer_answer, after_record, overfills, event_number}
+use Rattle.day.specs.Day.{Day, most_frames, joining}
+use Rattle.day.specs.Records.{nobody_hears, hearers, after_frame, take_frame, after_call, after_record, overfills, event_number}
 use Rattle.day.specs.Printed.{strikes_text, frame_text, take_text, timer_text, record_text, stopped_text}
 use Rattle.replay.specs.Runs.{Record, good, bad, Course, stopped, went_on, record_number, effect, effect_text, turn, turn_text, gone, gone_text}
-use Rattle.day.specs.Strikes.{span, marks_text, no_strikers, strikers_of, strikers_text, taken_text}
-use Rattle.day.specs.Calls.{refused_by, timed, called_by, told_by, kept_by, told, called_text}
-use Rattle.replay.specs.Table.{Way, day_in, course_in, records_in, plan_in, joined_by, timer_lines, onward, halted, moved_on, after_taken, after_timer, after_event, event_text, after_read, read_text, taken_in, handed_in, called_in, table_in, told_in, way_after, text_after}
+use Rattle.day.specs.Strikes.{span, marks_text, strikers_text, taken_text}
+use Rattle.day.specs.Calls.{refused_by, timed, called_by, told, called_text}
+use Rattle.replay.specs.Table.{Way, day_in, course_in, records_in, plan_in, joined_by, timer_lines, onward, halted, after_taken, after_timer, after_event, event_text, after_read, read_text, taken_in, handed_in, called_in, table_in, way_after, text_after}
 use Rattle.day.specs.Plans.{no_handing, handing_with, handing_for}
 use Rattle.day.specs.declared.wire.Flying.{Flying}
 use Rattle.day.specs.declared.calls.Call.{Call}
 use Rattle.day.specs.declared.calls.Call.TheVariants.{NoCall, TimerCall, QueueCall}
-use Rattle.day.specs.declared.calls.Told.{Told}
 use Rattle.day.specs.declared.calls.Answered.{Answered}
 use Rattle.day.proofs.Laws.Frames.{unheard_all, unstruck_all, unsent, none_at_all, nobody_at_all, strikers_lines}
 use Rattle.day.proofs.Laws.Strikes.{not_less}

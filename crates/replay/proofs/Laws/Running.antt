@@ -3,12 +3,10 @@ use mathlib.Core.Path.{◌≡◌, refl, sym, ap, subst, ◌∙◌}
 use mathlib.Core.Bool.{Bool, true, false, cond}
 use mathlib.Core.List.{List, [], ◌∷◌, ◌++◌, append-nil, append_assoc}
 use Prim.Native.Nat.{ℕ, zero, suc, ◌+◌, ◌*◌, ◌-◌, ◌^◌, ◌<◌, ◌≤◌}
-use native.Mathlib.Numerals.{add-one}
 use native.Mathlib.Omega.{arith}
 use lib.Dec.{ltb, eqb}
 use lib.ListN.{length, take, drop, length-append}
-use lib.Seq.{length-take-le}
-use borrow.Author.Tests.{eq-eqb, ne_eqb, eqb-true, eqb-false, ltb-true, ltb-false}
+use borrow.Author.Tests.{ne_eqb, eqb-true, eqb-false, ltb-true, ltb-false}
 use Rattle.codec.specs.Octets.{laid}
 use Rattle.codec.specs.Order.{first_of}
 use Rattle.codec.specs.Bits.{bits}
@@ -16,7 +14,6 @@ use Rattle.codec.proofs.Laws.Bits.{bits_below}
 use Rattle.codec.proofs.Laws.Octets.{laid_none, length_laid}
 use Rattle.parts.specs.Choose.{pick}
 use Rattle.parts.specs.Frames.{failing_of}
-use Rattle.parts.specs.declared.frame.Dispatch.{Dispatch}
 use Rattle.parts.proofs.Laws.Choose.{pick_true, pick_false, pick_and}
 use Rattle.station.specs.declared.station.Station.{Station}
 use Rattle.bench.specs.Rows.{row_on}
@@ -34,7 +31,7 @@ use Rattle.day.specs.Day.{joining}
 use Rattle.day.specs.Listening.{heard_in, asked, asked_read}
 use Rattle.day.specs.Printed.{struck_text, stopped_text}
 use Rattle.replay.specs.Runs.{Record, good, bad, read_first, records_from, asked_all, heard_from, Course, turn, turn_text, gone, gone_text}
-use Rattle.replay.specs.Running.{next_offset, offset_behind, Begins, records_for, course_after, text_of, AllDone}
+use Rattle.replay.specs.Running.{next_offset, offset_behind, Begins, course_after, text_of, AllDone}
 use Rattle.day.specs.Strikes.{span, marks_text, taken_text}
 use Rattle.replay.specs.Table.{Way, course_in, records_in, plan_in, moved_on, halted, onward, joined_by, timer_lines, after_taken, after_timer, after_event, event_text, after_read, read_text, goes_on, table_in, way_after, text_after}
 use Rattle.day.specs.Plans.{place_for}

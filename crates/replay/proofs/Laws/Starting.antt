@@ -1,19 +1,13 @@
 -- Laws of a day's calls: its first course, the lines of the frames on the wire, and how far one call goes. Assumes nothing.
 use mathlib.Core.Path.{◌≡◌, refl, sym, ap, subst, ◌∙◌}
 use mathlib.Core.Bool.{Bool, true, false}
-use mathlib.Core.List.{List, [], ◌∷◌, ◌++◌, append-nil, append_assoc}
+use mathlib.Core.List.{List, [], ◌∷◌, ◌++◌}
 use Prim.Native.Nat.{ℕ, zero, suc, ◌+◌, ◌*◌, ◌-◌, ◌/◌, ◌^◌, ◌<◌, ◌≤◌}
-use native.Mathlib.Numerals.{add-one}
 use native.Mathlib.Omega.{arith}
 use lib.Dec.{ltb}
-use lib.ListN.{length, get_or, take, length-append}
-use lib.Seq.{take_all}
+use lib.ListN.{length, get_or, take}
 use borrow.Author.Tests.{eq-eqb, ne_eqb, lt-ltb, le-ltb, ltb-true, ltb-false}
 use Rattle.codec.specs.Octets.{laid}
-use Rattle.codec.proofs.Laws.Octets.{laid_none}
-use Rattle.bench.specs.Rows.{row_of}
-use Rattle.bench.specs.Text.{row_text}
-use Rattle.bench.proofs.Laws.Laying.{laid_both, row_short}
 use Rattle.parts.specs.Choose.{pick}
 use Rattle.parts.specs.declared.frame.Dispatch.{Dispatch}
 use Rattle.parts.specs.declared.frame.Dispatch.TheVariants.{Nothing, Sent}
@@ -25,8 +19,8 @@ use Rattle.capture.specs.Record.{read_record}
 use Rattle.capture.specs.declared.record.Read.{Read}
 use Rattle.capture.specs.declared.record.Read.TheVariants.{End}
 use Rattle.day.specs.Day.{most_frames, joining, begun_by, start_day}
-use Rattle.day.specs.Printed.{flying_text, wire_text, station_text}
-use Rattle.replay.specs.Replays.{course_of, is_end, is_over, turns_in, RanFrom}
+use Rattle.day.specs.Printed.{station_text}
+use Rattle.replay.specs.Replays.{is_end, is_over, turns_in, RanFrom}
 use Rattle.replay.specs.Running.{longest, AllDone, Begins}
 use Rattle.replay.specs.Runs.{Course, begun}
 use Rattle.replay.specs.Table.{way_of}

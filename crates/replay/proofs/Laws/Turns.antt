@@ -1,11 +1,9 @@
 -- Laws of a record's turn: what it asks for, and what a called station answers. Assumes nothing.
 use mathlib.Core.Path.{◌≡◌, refl, sym, ap, subst, ◌∙◌}
-use mathlib.Core.Bool.{Bool, true, false}
-use mathlib.Core.List.{List, [], ◌∷◌}
+use mathlib.Core.List.{List}
 use Prim.Native.Nat.{ℕ, ◌+◌, ◌<◌, ◌≤◌}
 use native.Mathlib.Omega.{arith}
-use lib.Dec.{ltb}
-use lib.ListN.{length, get_or, drop, replicate}
+use lib.ListN.{length, drop}
 use borrow.Author.Tests.{eq-eqb}
 use Rattle.codec.specs.Octets.{laid}
 use Rattle.codec.proofs.Laws.Octets.{laid_none}
@@ -16,30 +14,21 @@ use Rattle.day.proofs.Laws.Asking.{nobody_asks, event_asks}
 use Rattle.day.specs.Printed.{stopped_text}
 use Rattle.parts.specs.Live.{seats}
 use Rattle.parts.specs.declared.request.Request.{Request}
-use Rattle.station.specs.Queue.{queue_rule}
-use Rattle.station.specs.Timer.{timer_rule}
-use Rattle.station.specs.declared.station.Station.{Station}
-use Rattle.station.specs.declared.station.Answer.{Answer}
 use Rattle.bench.specs.Delivery.{is_quiet}
 use Rattle.bench.specs.declared.table.Handing.{Handing}
 use Rattle.capture.specs.declared.record.Event.{Event}
 use Rattle.capture.specs.declared.record.Event.TheVariants.{Delivered, LostForAddressee, LostForAll, Timer, Queue}
 use Rattle.capture.specs.declared.record.Read.{Read}
 use Rattle.capture.specs.declared.record.Read.TheVariants.{End, Refused, Good}
-use Rattle.day.specs.Day.{most_frames}
-use Rattle.day.specs.Wire.{no_flying}
-use Rattle.day.specs.Calls.{refused_by, timed, called_by, called_text}
-use Rattle.day.specs.Plans.{no_handing, handing_with, handing_for, call_for, place_for, plan_of, no_plan}
+use Rattle.day.specs.Calls.{called_text}
+use Rattle.day.specs.Plans.{handing_for, call_for, place_for, plan_of, no_plan}
 use Rattle.replay.specs.Table.{Way, plan_in, moved_on, halted, onward, joined_by, timer_lines, after_taken, after_timer, event_text, after_event, read_text, after_read}
 use Rattle.day.specs.Strikes.{taken_text}
 use Rattle.day.specs.declared.wire.Flying.{Flying}
-use Rattle.day.specs.declared.wire.Frames.{Frames}
 use Rattle.day.specs.declared.calls.Call.{Call}
-use Rattle.day.specs.declared.calls.Answered.{Answered}
 use Rattle.day.specs.declared.calls.Told.{Told}
 use Rattle.day.specs.declared.strikes.Taken.{Taken}
 use Rattle.day.specs.declared.plan.Plan.{Plan}
-use Rattle.day.specs.declared.calls.Call.TheVariants.{NoCall, TimerCall, QueueCall}
 
 -- ---- what is asked for
 

@@ -1,7 +1,7 @@
 -- Calls one after the other: what is left of the records behind a call is what the next one begins with, and where a run is over nothing is left. Assumes nothing.
-use mathlib.Core.Path.{◌≡◌, refl, sym, ap, subst, ◌∙◌}
+use mathlib.Core.Path.{◌≡◌, refl, sym, ap, ◌∙◌}
 use mathlib.Core.Bool.{Bool, true, false, false≢true}
-use mathlib.Core.List.{List, [], ◌∷◌, ◌++◌, append-nil, append_assoc}
+use mathlib.Core.List.{List, [], ◌∷◌, ◌++◌, append_assoc}
 use Prim.Native.Nat.{ℕ, zero, suc, ◌+◌, ◌-◌, ◌≤◌}
 use native.Mathlib.Nat.{zero-add}
 use native.Mathlib.Omega.{arith}
@@ -17,7 +17,7 @@ use Rattle.capture.specs.declared.record.Read.TheVariants.{End, Refused, Good}
 use Rattle.capture.proofs.Laws.Reading.{refused_is}
 use Rattle.day.specs.Listening.{heard_in, asked}
 use Rattle.replay.specs.Replays.{course_of, is_end, is_over, turns_in, records_now, RanFrom}
-use Rattle.replay.specs.Running.{next_offset, offset_behind}
+use Rattle.replay.specs.Running.{offset_behind}
 use Rattle.replay.specs.Runs.{Record, good, bad, heard_from, Course, stopped, went_on, record_number, effect, turn, turn_text, gone, gone_text}
 use Rattle.replay.specs.declared.run.Replay.{Replay}
 use Rattle.replay.specs.declared.run.Ran.{Ran}

@@ -1,13 +1,13 @@
 -- Laws of what a driver is told. Assumes nothing.
-use mathlib.Core.Path.{◌≡◌, refl, sym, ap, ◌∙◌}
+use mathlib.Core.Path.{◌≡◌, sym, ◌∙◌}
 use mathlib.Core.Bool.{Bool, true, false, cond}
-use mathlib.Core.List.{List, [], ◌∷◌}
+use mathlib.Core.List.{List, []}
 use Prim.Native.Nat.{ℕ}
 use native.Mathlib.Omega.{arith}
 use borrow.Author.Tests.{ne_eqb}
-use lib.Dec.{ltb, eqb}
+use lib.Dec.{ltb}
 use lib.ListN.{length}
-use Rattle.rtep.specs.declared.Made.TheVariants.{Nothing, Packet as Of}
+use Rattle.rtep.specs.declared.Made.TheVariants.{Nothing}
 use Rattle.rtep.specs.Told.{made_refusal, WriteTold}
 
 refused : (b : Bool) → ◌≡◌ {A = ℕ} (cond b 9 12) 0 → ⊥

@@ -5,7 +5,7 @@ use mathlib.Core.List.{List, [], ◌∷◌, ◌++◌}
 use Prim.Native.Nat.{ℕ, zero, suc, ◌+◌, ◌-◌, ◌*◌, ◌/◌, ◌%◌, ◌^◌, ◌<◌, ◌≤◌, zero-le, suc-le-suc}
 use native.Mathlib.Numerals.{add-one}
 use native.Mathlib.Omega.{arith}
-use borrow.Author.Tests.{le-ltb, lt-ltb, ltb-true, ltb-false, ne_eqb}
+use borrow.Author.Tests.{le-ltb, ltb-true, ltb-false, ne_eqb}
 use lib.Dec.{ltb}
 use lib.ListN.{length, take, drop, get_or, replicate, length-replicate, get_or-replicate, replicate-append-replicate, get_or-eq_default}
 use lib.Seq.{length-take-le, get_or-take}

@@ -20,7 +20,7 @@ use Rattle.packet_codec.proofs.Theorems.WriteRead as packets
 use Rattle.rtep.specs.declared.Made.{Made}
 use Rattle.rtep.specs.declared.Made.TheVariants.{Packet as Of}
 use Rattle.rtep.specs.Told.{values_of, read_told, ReadTold, made_of, made_refusal, WriteTold}
-use Rattle.rtep_theorems.specs.Numbers.{written, information_of}
+use Rattle.rtep_theorems.specs.Numbers.{information_of}
 use Rattle.rtep_theorems.proofs.Laws.Values.{made_again, length_told, length_packet}
 use Rattle.rtep_theorems.specs.RoundTrip.{WriteBack}
 

@@ -1,31 +1,29 @@
 -- Laws of what is decided before any list is touched: once it is done it is what the page's rules say. Assumes nothing.
 use mathlib.Core.Path.{◌≡◌, refl, sym, ap, ◌∙◌}
-use mathlib.Core.Bool.{Bool, true, false, not, cond, false≢true}
+use mathlib.Core.Bool.{Bool, true, false, not, false≢true}
 use mathlib.Core.List.{[], ◌∷◌}
 use Prim.Native.Nat.{ℕ}
 use lib.Dec.{eqb, ltb}
 use Rattle.codec.specs.Order.{first_of}
 use Rattle.parts.specs.Choose.{pick}
 use Rattle.parts.specs.Moves.{move_of, runs, is_idle}
-use Rattle.parts.specs.Messages.{none, best, split_by}
+use Rattle.parts.specs.Messages.{split_by}
 use Rattle.parts.specs.Live.{without, successor}
-use Rattle.parts.specs.Frames.{number_of, flight, no_flight, failing_of}
+use Rattle.parts.specs.Frames.{number_of, flight, failing_of}
 use Rattle.sent.specs.Round.{reply, start_round}
 use Rattle.sent.specs.Resend.{resend}
-use Rattle.station.specs.Stations.{station_by, state_of, awaited_of, with_turn, quiet_turn, quiet, sending_turn, more_turn, alone, head, answered, moved, unless}
+use Rattle.station.specs.Stations.{station_by, state_of, awaited_of, with_turn, quiet_turn, quiet, sending_turn, more_turn, head, answered, moved, unless}
 use Rattle.station.specs.Sight.{sight}
 use Rattle.station.specs.Strike.{Struck}
 use Rattle.station.specs.Start.{sent_first, started, start_rule}
-use Rattle.station.specs.Heard.{Stored, checks, acknowledged, acknowledge, failed, is_last, stops, nothing_more, heard_message, receive, stored, send_on, handle, silent, respond, heard, frame_rule}
+use Rattle.station.specs.Heard.{Stored, checks, acknowledged, failed, is_last, stops, nothing_more, heard_message, stored, send_on, handle, silent, respond, heard, frame_rule}
 use Rattle.station.specs.Timer.{again, unanswered, left_alone, goes_on, after_strike, silence, on_timer, timer_rule}
-use Rattle.station.specs.Deeds.{refused, turned, landing, leaving, live_after, struck_by, left, touched, received, received_one, carried_out, verdict, untouched, turn_alone, done_by}
-use Rattle.station.specs.Decide.{live_without, competing, sight_after, rested, lands_by, blow_at, blow_of, closed, course_of, to_store, stores_too, quietly, replying, hearing, decided, strikes_out, going_on, last_timer, beginning, starting, decided_start, decided_silence, decided_awaiting, decided_timer}
+use Rattle.station.specs.Deeds.{refused, turned, landing, leaving, live_after, received, received_one, carried_out, untouched, turn_alone, done_by}
+use Rattle.station.specs.Decide.{live_without, competing, sight_after, rested, lands_by, blow_at, blow_of, closed, course_of, to_store, quietly, replying, hearing, decided, strikes_out, going_on, last_timer, beginning, starting, decided_start, decided_silence, decided_awaiting, decided_timer}
 use Rattle.parts.specs.declared.moves.State.TheVariants.{Idle, Alone, Excluded}
 use Rattle.parts.specs.declared.moves.Event.TheVariants.{Heard, Timer, Start}
 use Rattle.parts.specs.declared.list.Message.{Message}
-use Rattle.parts.specs.declared.list.Messages.{Messages}
-use Rattle.parts.specs.declared.list.Flight.{Flight}
-use Rattle.parts.specs.declared.list.Which.TheVariants.{AnyWaiting, WaitingFor, WaitingForOthers}
+use Rattle.parts.specs.declared.list.Which.TheVariants.{WaitingFor}
 use Rattle.parts.specs.declared.frame.Whom.{Whom}
 use Rattle.parts.specs.declared.frame.Whom.TheVariants.{Nobody, Member}
 use Rattle.parts.specs.declared.frame.InformationFrame.{InformationFrame}
@@ -38,8 +36,7 @@ use Rattle.station.specs.declared.station.Handled.TheVariants.{Last}
 use Rattle.station.specs.declared.station.Turn.{Turn}
 use Rattle.station.specs.declared.station.Station.{Station}
 use Rattle.station.specs.declared.station.Answer.{Answer}
-use Rattle.station.specs.declared.station.Payload.{Payload}
-use Rattle.station.specs.declared.station.Payload.TheVariants.{NoPayload, Of}
+use Rattle.station.specs.declared.station.Payload.TheVariants.{NoPayload}
 use Rattle.station.specs.declared.rules.heard.Course.{Course}
 use Rattle.station.specs.declared.rules.deeds.Blow.{Blow}
 use Rattle.station.specs.declared.rules.deeds.Blow.TheVariants as blow

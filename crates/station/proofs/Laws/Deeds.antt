@@ -1,30 +1,27 @@
 -- Laws of what was decided and is done: each way of doing it is what the page's steps do. Assumes nothing.
-use mathlib.Core.Path.{◌≡◌, refl, sym, ap, ◌∙◌}
-use mathlib.Core.Bool.{Bool, true, false, not, ◌&&◌, false≢true}
-use Prim.Native.Nat.{ℕ, zero, ◌+◌, ◌-◌, ◌≤◌}
+use mathlib.Core.Path.{◌≡◌, refl, ap, ◌∙◌}
+use mathlib.Core.Bool.{Bool, true, false, false≢true}
+use Prim.Native.Nat.{ℕ, ◌+◌, ◌-◌, ◌≤◌}
 use native.Mathlib.Omega.{arith}
 use lib.Dec.{eqb, leb}
-use borrow.Author.Tests.{eq-eqb, ne_eqb, eqb-true, eqb-false}
 use Rattle.parts.specs.Choose.{pick}
-use Rattle.parts.specs.Messages.{none, pushed, split_by, chosen_by, best, flies, fits}
-use Rattle.parts.specs.Live.{without, successor}
-use Rattle.parts.specs.Frames.{flight, no_flight}
+use Rattle.parts.specs.Messages.{pushed, split_by, chosen_by, best}
+use Rattle.parts.specs.Frames.{flight}
 use Rattle.parts.specs.Live.{newly}
-use Rattle.station.specs.Stations.{station_by, with_turn, with_sends, with_live, with_receives, with_lost, awaited_of, quiet, quiet_turn, add_up_to, counted, alone, head}
+use Rattle.station.specs.Stations.{station_by, with_turn, with_sends, with_receives, with_lost, awaited_of, quiet, quiet_turn, add_up_to, alone, head}
 use Rattle.station.specs.Sight.{sight}
 use Rattle.station.specs.Strike.{Loss, Struck, strike, nothing_gone, give_up_to, leave, give_up_at, give_up_flight, told, stopped}
 use Rattle.station.specs.Heard.{Stored, acknowledged, landed, acknowledge, strike_other, strike_heard, failed, receive}
-use Rattle.station.specs.Deeds.{no_deeds, landing, also_at, also_flight, all_stay, waiters_leave, flight_leaves, leaving, live_after, struck_by, left, touched, received_one, received, carried_out, verdict, untouched, spares, stores_none, turn_alone}
-use Rattle.station.specs.Decide.{live_without, competing, sight_after, rested, lands_by, blow_at, blow_of, closed}
+use Rattle.station.specs.Deeds.{no_deeds, landing, also_at, also_flight, all_stay, waiters_leave, flight_leaves, leaving, live_after, struck_by, received_one, received, carried_out, verdict, untouched, spares, stores_none, turn_alone}
+use Rattle.station.specs.Decide.{rested, lands_by, blow_at, blow_of, closed}
 use Rattle.parts.specs.declared.moves.State.{State}
 use Rattle.parts.specs.declared.moves.State.TheVariants.{Idle, Alone, Excluded}
 use Rattle.parts.specs.declared.list.Message.{Message}
 use Rattle.parts.specs.declared.list.Messages.{Messages}
 use Rattle.parts.specs.declared.list.Parts.{Parts}
-use Rattle.parts.specs.declared.list.Best.{Best}
 use Rattle.parts.specs.declared.list.Flight.{Flight}
 use Rattle.parts.specs.declared.list.Which.{Which}
-use Rattle.parts.specs.declared.list.Which.TheVariants.{AnyWaiting, WaitingFor, WaitingForOthers, HasPlace}
+use Rattle.parts.specs.declared.list.Which.TheVariants.{WaitingFor, HasPlace}
 use Rattle.parts.specs.declared.frame.Whom.{Whom}
 use Rattle.parts.specs.declared.frame.Whom.TheVariants.{Nobody, Member}
 use Rattle.parts.specs.declared.frame.Dispatch.{Dispatch}
@@ -34,11 +31,8 @@ use Rattle.station.specs.declared.station.Payload.{Payload}
 use Rattle.station.specs.declared.station.Payload.TheVariants.{NoPayload, Of}
 use Rattle.station.specs.declared.rules.deeds.Blow.{Blow}
 use Rattle.station.specs.declared.rules.deeds.Blow.TheVariants as blow
-use Rattle.station.specs.declared.rules.deeds.Deeds.{Deeds}
 use Rattle.station.specs.declared.rules.deeds.Verdict.{Verdict}
 use Rattle.station.specs.declared.rules.deeds.Received.{Received}
-use Rattle.parts.proofs.Laws.Choose.{pick_true, pick_false}
-use Rattle.parts.proofs.Laws.Best.{best_alike, best_of_kept, best_none_gone}
 use Rattle.parts.proofs.Laws.Messages.{both_parts}
 use Rattle.station.proofs.Laws.Stations.{add_inside}
 

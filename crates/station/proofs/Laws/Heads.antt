@@ -7,21 +7,16 @@ use borrow.Author.Tests.{eq-eqb, ne_eqb, eqb-true, eqb-false}
 use Rattle.parts.specs.Choose.{pick}
 use Rattle.parts.specs.Messages.{split_by, best, flies, fits}
 use Rattle.parts.specs.Frames.{flight, no_flight}
-use Rattle.station.specs.Stations.{quiet_turn}
 use Rattle.station.specs.Deeds.{landing, also_at, also_flight}
 use Rattle.station.specs.Decide.{competing, rested, lands_by}
-use Rattle.parts.specs.declared.moves.State.TheVariants.{Idle}
 use Rattle.parts.specs.declared.list.Message.{Message}
 use Rattle.parts.specs.declared.list.Messages.{Messages}
 use Rattle.parts.specs.declared.list.Parts.{Parts}
-use Rattle.parts.specs.declared.list.Best.{Best}
 use Rattle.parts.specs.declared.list.Flight.{Flight}
-use Rattle.parts.specs.declared.list.Which.{Which}
 use Rattle.parts.specs.declared.list.Which.TheVariants.{AnyWaiting, WaitingFor, WaitingForOthers, HasPlace}
 use Rattle.parts.specs.declared.frame.Whom.{Whom}
 use Rattle.parts.specs.declared.frame.Whom.TheVariants.{Nobody, Member}
 use Rattle.station.specs.declared.station.Turn.{Turn}
-use Rattle.parts.proofs.Laws.Choose.{pick_true, pick_false}
 use Rattle.parts.proofs.Laws.Best.{best_alike, best_of_kept, best_none_gone}
 
 -- ---- tests

@@ -1,22 +1,19 @@
 -- Laws of the rule for a heard frame: what each step is, when its parts are so. Assumes nothing.
 use mathlib.Core.Path.{◌≡◌, refl, sym, ap, ◌∙◌}
-use mathlib.Core.Bool.{true, false}
+use mathlib.Core.Bool.{false}
 use Prim.Native.Nat.{ℕ, ◌<◌, ◌≤◌}
-use borrow.Author.Tests.{le-leb, lt-leb, eq-eqb, ne_eqb}
+use borrow.Author.Tests.{le-leb, lt-leb}
 use Rattle.parts.specs.Moves.{move_of, runs}
-use Rattle.parts.specs.Messages.{none, pushed}
-use Rattle.parts.specs.Frames.{number_of, flight, failing_of}
-use Rattle.station.specs.Stations.{state_of, awaited_of, with_receives, with_lost, add_up_to, alone}
+use Rattle.parts.specs.Messages.{pushed}
+use Rattle.parts.specs.Frames.{number_of, failing_of}
+use Rattle.station.specs.Stations.{state_of, with_receives, with_lost, add_up_to}
 use Rattle.station.specs.Sight.{sight}
 use Rattle.sent.specs.Round.{reply}
 use Rattle.station.specs.Strike.{Struck}
-use Rattle.parts.specs.Live.{newly}
-use Rattle.station.specs.Heard.{Stored, landed, acknowledge, strike_other, strike_heard, failed, nothing_more, receive, stored, send_on, handle, silent, respond, heard, checks, frame_rule}
-use Rattle.parts.specs.declared.moves.State.TheVariants.{Alone, Excluded}
+use Rattle.station.specs.Heard.{Stored, acknowledge, failed, nothing_more, receive, stored, send_on, handle, respond, heard, checks, frame_rule}
 use Rattle.parts.specs.declared.moves.Event.TheVariants.{Heard}
 use Rattle.parts.specs.declared.list.Message.{Message}
 use Rattle.parts.specs.declared.list.Messages.{Messages}
-use Rattle.parts.specs.declared.list.Flight.{Flight}
 use Rattle.parts.specs.declared.frame.Whom.{Whom}
 use Rattle.parts.specs.declared.frame.Frame.{Frame}
 use Rattle.parts.specs.declared.frame.Dispatch.{Dispatch}

@@ -4,10 +4,8 @@ use Prim.Native.Nat.{ℕ, ◌+◌, ◌-◌, ◌<◌, ◌≤◌}
 use borrow.Author.Tests.{le-leb, lt-leb}
 use Rattle.parts.specs.declared.live.Live.{Live}
 use Rattle.parts.specs.declared.list.Messages.{Messages}
-use Rattle.parts.specs.declared.moves.State.TheVariants.{Offline}
 use Rattle.parts.specs.declared.frame.Dispatch.TheVariants.{Nothing}
 use Rattle.parts.specs.declared.frame.Whom.TheVariants.{Nobody}
-use Rattle.station.specs.declared.station.Handled.TheVariants.{Never}
 use Rattle.station.specs.declared.station.Station.{Station}
 use Rattle.station.specs.declared.station.Payload.TheVariants.{NoPayload}
 use Rattle.parts.specs.Messages.{none}

@@ -1,23 +1,16 @@
 -- Laws of the rule for the timer: what each step is, when its parts are so. Assumes nothing.
 use mathlib.Core.Path.{◌≡◌, refl, sym, ap, ◌∙◌}
-use mathlib.Core.Bool.{true, false}
 use Prim.Native.Nat.{ℕ, ◌<◌, ◌≤◌}
 use borrow.Author.Tests.{lt-ltb, le-ltb}
 use Rattle.parts.specs.Moves.{move_of}
-use Rattle.station.specs.Stations.{state_of, awaited_of, quiet, alone}
-use Rattle.station.specs.Sight.{sight}
+use Rattle.station.specs.Stations.{state_of, awaited_of}
 use Rattle.station.specs.Strike.{Struck}
-use Rattle.parts.specs.Live.{newly}
-use Rattle.station.specs.Timer.{again, unanswered, left_alone, goes_on, after_strike, silence, on_timer, timer_rule}
-use Rattle.sent.specs.Resend.{resend}
-use Rattle.parts.specs.declared.moves.State.TheVariants.{Idle, Waiting}
+use Rattle.station.specs.Timer.{again, unanswered, after_strike, silence, on_timer, timer_rule}
+use Rattle.parts.specs.declared.moves.State.TheVariants.{Waiting}
 use Rattle.parts.specs.declared.moves.Event.TheVariants.{Timer}
-use Rattle.parts.specs.declared.frame.Whom.{Whom}
 use Rattle.parts.specs.declared.frame.Frame.{Frame}
-use Rattle.parts.specs.declared.frame.Dispatch.{Dispatch}
 use Rattle.parts.specs.declared.frame.Dispatch.TheVariants.{Sent}
 use Rattle.station.specs.declared.station.Station.{Station}
-use Rattle.sent.specs.declared.round.Sight.{Sight}
 use Rattle.parts.proofs.Laws.Choose.{pick_true, pick_false}
 use Rattle.station.proofs.Laws.Moved.{moved_runs}
 

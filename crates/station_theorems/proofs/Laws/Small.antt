@@ -1,7 +1,7 @@
 -- Numbers that stay within their types' ranges where wholeness says nothing of them: frame numbers, priorities, counts. Assumes nothing.
-use mathlib.Core.Path.{◌≡◌, refl, sym, ap, ◌∙◌}
+use mathlib.Core.Path.{◌≡◌, refl}
 use mathlib.Core.Bool.{Bool, true, false, not}
-use mathlib.Core.List.{List, [], ◌∷◌, ◌++◌}
+use mathlib.Core.List.{List, [], ◌∷◌}
 use Prim.Native.Nat.{ℕ, ◌+◌, ◌-◌, ◌<◌, ◌≤◌}
 use native.Mathlib.Omega.{arith}
 use lib.Dec.{leb, ltb, eqb}
@@ -9,11 +9,10 @@ use lib.ListN.{length, length-take}
 use borrow.Author.Tests.{leb-true, ltb-true, ltb-false, lt-ltb}
 use Rattle.codec.specs.Order.{first_of}
 use Rattle.parts.specs.Choose.{pick, every}
-use Rattle.parts.specs.Messages.{all, pack, pushed, only, fits, split_by, no_best, the_best, better_of, best_of, best}
+use Rattle.parts.specs.Messages.{all, pushed, only, fits, split_by, no_best, the_best, better_of, best_of, best}
 use Rattle.parts.specs.Live.{live_at}
 use Rattle.parts.specs.Frames.{next}
-use Rattle.station.specs.Stations.{add_up_to, head}
-use Rattle.station.specs.Sight.{sight}
+use Rattle.station.specs.Stations.{add_up_to}
 use Rattle.sent.specs.Round.{priority_of, start_round, send_head, grant, returned, bid_of, cleared, raised, pass_on, on_token, reply}
 use Rattle.parts.specs.declared.list.Message.{Message}
 use Rattle.parts.specs.declared.list.Messages.{Messages}

@@ -1,27 +1,25 @@
 -- Every call keeps frame numbers, priorities and counts within their types' ranges, where those of the heard frame are. Assumes nothing.
-use mathlib.Core.Path.{◌≡◌, refl, sym, ap, ◌∙◌}
+use mathlib.Core.Path.{◌≡◌, refl}
 use mathlib.Core.Bool.{Bool, true, false, not}
-use mathlib.Core.List.{List, [], ◌∷◌}
+use mathlib.Core.List.{[], ◌∷◌}
 use Prim.Native.Nat.{ℕ, ◌<◌}
 use native.Mathlib.Omega.{arith}
 use lib.Dec.{leb, ltb, eqb}
 use borrow.Author.Tests.{eqb-true}
 use Rattle.codec.specs.Order.{first_of}
-use Rattle.parts.specs.Choose.{pick, every}
-use Rattle.parts.specs.Messages.{all, pushed}
+use Rattle.parts.specs.Choose.{pick}
 use Rattle.parts.specs.Live.{live_at}
 use Rattle.parts.specs.Frames.{number_of, next, failing_of, flight}
-use Rattle.station.specs.Stations.{awaited_of, made, with_sends, with_live, quiet, sending, head, answered, moved, unless, alone}
+use Rattle.station.specs.Stations.{awaited_of, made, with_sends, quiet, sending, head, moved, unless, alone}
 use Rattle.sent.specs.Round.{bid_of, own_bid, forward, start_round}
 use Rattle.station.specs.Start.{started, start_rule}
 use Rattle.station.specs.Strike.{Loss, Struck, strike, give_up_to, give_up_at, give_up_flight, leave, message_at, nothing_gone, told, stopped}
 use Rattle.parts.specs.Live.{newly}
-use Rattle.station.specs.Heard.{Stored, acknowledged, landed, acknowledge, strike_other, strike_heard, failed, nothing_more, heard_message, receive, stored, handle, respond, heard, frame_rule}
+use Rattle.station.specs.Heard.{Stored, acknowledged, landed, acknowledge, strike_other, strike_heard, failed, nothing_more, receive, stored, handle, respond, heard, frame_rule}
 use Rattle.station.specs.Timer.{unanswered, after_strike, silence, on_timer, timer_rule}
 use Rattle.sent.specs.Resend.{token_again, renamed, resend}
-use Rattle.station.specs.Queue.{queue_number, new_message, accepted, queue_rule}
+use Rattle.station.specs.Queue.{accepted, queue_rule}
 use Rattle.station.specs.Take.{taking, take_rule}
-use Rattle.parts.specs.declared.list.Message.{Message}
 use Rattle.parts.specs.declared.list.Messages.{Messages}
 use Rattle.parts.specs.declared.list.Which.TheVariants.{AnyWaiting}
 use Rattle.parts.specs.declared.request.Request.{Request}
@@ -43,7 +41,7 @@ use Rattle.station.specs.declared.station.Answer.{Answer}
 use Rattle.parts.proofs.Laws.Tests.{each_none}
 use Rattle.parts.proofs.Laws.Queue.{queue_good}
 use Rattle.station_theorems.specs.Small.{Small, SmallFrame, SmallDispatch, SmallHandled, SmallList}
-use Rattle.station_theorems.proofs.Laws.Small.{SmallBest, pick_keeps, pick_keeps_if, split_small, push_small, best_small, add_small, next_small, start_small, reply_small, own_small, send_small}
+use Rattle.station_theorems.proofs.Laws.Small.{SmallBest, pick_keeps, pick_keeps_if, split_small, push_small, best_small, add_small, next_small, start_small, reply_small, own_small}
 
 module _ (n limit : ℕ) where
   -- ---- one field anew

@@ -1,10 +1,10 @@
 -- Laws of whole's tests, one element at a time, as its loops go. Assumes nothing.
-use mathlib.Core.Path.{◌≡◌, refl, sym, ap, ◌∙◌}
+use mathlib.Core.Path.{◌≡◌, refl}
 use mathlib.Core.Bool.{Bool, true, false}
 use mathlib.Core.List.{List, [], ◌∷◌, ◌++◌}
-use Prim.Native.Nat.{ℕ, zero, suc, ◌+◌, ◌≤◌, ◌<◌}
+use Prim.Native.Nat.{ℕ, ◌+◌, ◌≤◌, ◌<◌}
 use native.Mathlib.Numerals.{add-one}
-use lib.ListN.{get_or, set, drop, length, replicate, drop_of_length-le}
+use lib.ListN.{get_or, drop, length, drop_of_length-le}
 use lib.Seq.{drop-cons}
 use Rattle.parts.specs.Choose.{pick, all_of, every}
 use Rattle.parts.specs.Messages.{has_place}

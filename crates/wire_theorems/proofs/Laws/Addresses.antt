@@ -1,13 +1,12 @@
 -- Laws of a good ring's addresses: of 48 bits, none zero, each at one position only. Assumes nothing.
 use mathlib.Core.Path.{◌≡◌, refl, sym, ap, ◌∙◌}
-use mathlib.Core.Bool.{Bool, true, false, cond, not, false≢true, ◌||◌}
+use mathlib.Core.Bool.{Bool, true, false, cond, false≢true, ◌||◌}
 use mathlib.Core.List.{List, [], ◌∷◌, ◌++◌, append-nil, append_assoc}
-use Prim.Native.Nat.{ℕ, zero, suc, ◌+◌, ◌*◌, ◌/◌, ◌%◌, ◌^◌, ◌<◌, ◌≤◌}
+use Prim.Native.Nat.{ℕ, zero, suc, ◌/◌, ◌%◌, ◌^◌, ◌<◌, ◌≤◌}
 use native.Mathlib.Omega.{arith}
 use borrow.Author.Tests.{eq-eqb, ltb-false, le-ltb}
 use lib.Dec.{eqb, ltb}
 use lib.ListN.{length, take, get_or}
-use Rattle.codec.specs.Bits.{bits}
 use Rattle.codec.specs.Ring.{RingRead, position, is_member, bad_address, addresses_tests, addresses_refusal, addresses_of, count, ring_of as ring_in, read_ring}
 use Rattle.codec.proofs.Laws.Bits.{bits_below}
 use Rattle.codec.proofs.Laws.Order.{Apart, NoneHolds, none_holds}

@@ -1,17 +1,15 @@
 -- What a call sends is what its station then awaits; so of a whole station's call it is fit and its message is in the send list.
 -- Assumes nothing.
 use mathlib.Core.Path.{◌≡◌, refl, subst}
-use mathlib.Core.Bool.{Bool, true}
-use mathlib.Core.List.{List, []}
+use mathlib.Core.Bool.{Bool}
+use mathlib.Core.List.{List}
 use Prim.Native.Nat.{ℕ}
 use native.Mathlib.Omega.{arith}
 use lib.Dec.{ltb, eqb}
-use lib.ListN.{length}
 use Rattle.codec.specs.Ring.{position}
 use Rattle.packet_codec.specs.Packet.{read_packet, read_number}
 use Rattle.packet_codec.specs.declared.reading.Read.{Read}
 use Rattle.packet_codec.specs.declared.reading.Read.TheVariants.{Refused, Good}
-use Rattle.parts.specs.Messages.{all}
 use Rattle.parts.specs.declared.frame.Whom.TheVariants.{Nobody}
 use Rattle.parts.specs.declared.frame.TokenFrame.{TokenFrame}
 use Rattle.parts.specs.declared.frame.Frame.{Frame}
@@ -25,13 +23,10 @@ use Rattle.station.specs.Heard.{handle, respond, heard, frame_rule}
 use Rattle.station.specs.Timer.{unanswered, after_strike, silence, on_timer, timer_rule}
 use Rattle.station.specs.declared.station.Station.{Station}
 use Rattle.station.specs.declared.station.Answer.{Answer}
-use Rattle.wholeness.specs.Whole.{apart}
 use Rattle.station_theorems.proofs.Laws.Kept.{list_apart}
 use Rattle.station_theorems.proofs.Laws.Sound.{sound}
 use Rattle.station_theorems.proofs.Laws.Small.{pick_keeps}
-use Rattle.station_theorems.specs.Small.{SmallFrame, SmallDispatch}
-use Rattle.station_theorems.specs.Awaited.{Proper}
-use Rattle.station_theorems.specs.GoodList.{GoodList}
+use Rattle.station_theorems.specs.Small.{SmallDispatch}
 use Rattle.station_theorems.proofs.Theorems.Whole.{whole_is}
 use Rattle.driver_buffers.specs.Packets.{frame_of}
 use Rattle.driver_calls.specs.Calls.{ring_in, heard_then, packet_rule}

@@ -1,16 +1,13 @@
 -- What a heard frame stored is what take hands back, whatever other calls came between, as long as the message stands in the receive
 -- list. Assumes nothing.
 use mathlib.Core.Path.{◌≡◌, sym, ap, subst, ◌∙◌}
-use mathlib.Core.Bool.{true}
 use mathlib.Core.List.{List, [], Memᴰ}
 use Prim.Native.Nat.{ℕ, ◌+◌, ◌<◌, ◌≤◌}
 use native.Mathlib.Omega.{arith}
 use borrow.Author.Tests.{eqb-true, not-false, le-leb}
 use lib.ListN.{length}
 use Rattle.codec.specs.Octets.{Octets, laid}
-use Rattle.packet_codec.specs.Packet.{information_in, information_part, read_packet}
-use Rattle.packet_codec.specs.declared.packet.Packet.{Packet}
-use Rattle.packet_codec.specs.declared.reading.Read.TheVariants.{Good}
+use Rattle.packet_codec.specs.Packet.{information_in, information_part}
 use Rattle.parts.specs.Messages.{all}
 use Rattle.parts.specs.declared.list.Message.{Message}
 use Rattle.parts.proofs.Laws.Choose.{pick_true}

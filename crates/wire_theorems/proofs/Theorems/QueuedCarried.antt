@@ -7,10 +7,8 @@ use Prim.Native.Nat.{ℕ, ◌<◌, ◌≤◌}
 use native.Mathlib.Omega.{arith}
 use borrow.Author.Tests.{eqb-true, eqb-false, not-false}
 use lib.Dec.{eqb}
-use lib.ListN.{length, take, get_or}
-use Rattle.packet_codec.specs.Packet.{information_part}
-use Rattle.driver_buffers.specs.Packets.{packet_of}
-use Rattle.parts.specs.Messages.{all, best_of, no_best, the_best, message_for}
+use lib.ListN.{length}
+use Rattle.parts.specs.Messages.{all, best_of, no_best, the_best}
 use Rattle.parts.specs.Moves.{move_of}
 use Rattle.parts.specs.declared.moves.State.{State}
 use Rattle.parts.specs.declared.moves.State.TheVariants.{Offline, Idle, Waiting, Alone, Excluded}
@@ -33,7 +31,7 @@ use Rattle.station_theorems.proofs.Laws.Members.{standing, stood}
 use Rattle.station_theorems.proofs.Laws.Small.{pick_keeps}
 use Rattle.station_theorems.proofs.Laws.Telling.{pick_either}
 use Rattle.records.specs.Layout.{store_length}
-use Rattle.driver_buffers.specs.Places.{fits_place, in_place, put_place, carried_in, queued}
+use Rattle.driver_buffers.specs.Places.{in_place, put_place, carried_in, queued}
 use Rattle.driver_calls.specs.Calls.{station_in, bad_store, queue_answer, Queueing, ring_in}
 use Rattle.driver_theorems.proofs.Theorems.Held.{held_sure, anew_reads, queue_sure}
 use Rattle.driver_theorems.specs.Held.{Held, by_queue}

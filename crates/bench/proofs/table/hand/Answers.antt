@@ -1,4 +1,4 @@
-use Rattle.std.proofs.Common.{◌≡◌, ◌∙◌, ◌≤◌, ◌+◌, sym, length, ap, arith}
+use Rattle.std.proofs.Common.{◌≡◌, ◌∙◌, ◌≤◌, length, arith}
 use Rattle.parts.specs.Live.{seats}
 use Rattle.parts.proofs.Laws.Live.{seats_most}
 use Rattle.bench.proofs.Laws.Passing.{passed_none, passed_table, passed_reply}
@@ -44,7 +44,7 @@ loop-p-preserved c =
     let a = c.args in (
       omega (arith, c.if-h-p.false),
       turn_hand a.h c.requires.1.1 a.table.now c.loop-p.table c.loop-p.reply a.h.m c.loop-p.p c.touched_from-p.result c.requires.1.0 (full w) (at_most w) (found w)
-      c.if-h-p.false c.hear_at-sent.result c.reply_at-reply.result c.hear_at-sent.new.table c.hear_at-sent.ensures.0 c.hear_at-sent.ensures.1 c.reply_at-reply.ensures,
+          c.if-h-p.false c.hear_at-sent.result c.reply_at-reply.result c.hear_at-sent.new.table c.hear_at-sent.ensures.0 c.hear_at-sent.ensures.1 c.reply_at-reply.ensures,
     )
 
 pub returns : goal.returns

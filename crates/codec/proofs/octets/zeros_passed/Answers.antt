@@ -1,5 +1,4 @@
 use mathlib.Core.Path.{refl, sym, ◌∙◌}
-use Prim.Native.Nat.{◌-◌}
 use native.Mathlib.Omega.{arith}
 use Rattle.codec.proofs.Laws.Zeros.{zeros_more}
 use Rattle.codec.proofs.octets.zeros_passed.Goals as goal

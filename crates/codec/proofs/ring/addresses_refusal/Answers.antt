@@ -1,5 +1,4 @@
 use mathlib.Core.Path.{refl, sym, ◌∙◌}
-use Prim.Native.Nat.{◌-◌}
 use native.Mathlib.Omega.{arith}
 use Rattle.codec.specs.Ring.{addresses_refusal}
 use Rattle.codec.proofs.Laws.Ring.{addresses_none, addresses_more, addresses_here}

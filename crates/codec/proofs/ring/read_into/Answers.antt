@@ -35,7 +35,7 @@ returns-then-early-ne0 c =
 
 good : (c : Else-early-ne0) → HeadGood c.args.file.now
 good c =
-    let early' : c.field_refusal-early.result ≡ head_refusal c.args.file.now = let file = c.args.file.now in     c.field_refusal-early.ensures     ∙ ap (λ (h : HeadBits). field_refusal h (length file)) c.head_of-head.ensures     ∙ sym (head_fields file c.if-file-lt-HEAD.false) in
+    let early' : c.field_refusal-early.result ≡ head_refusal c.args.file.now = let file = c.args.file.now in c.field_refusal-early.ensures ∙ ap (λ (h : HeadBits). field_refusal h (length file)) c.head_of-head.ensures ∙ sym (head_fields file c.if-file-lt-HEAD.false) in
     head_good _ (sym early' ∙ c.if-early-ne0.false)
 
 pub count-n-requires : goal.count-n-requires

@@ -1,5 +1,4 @@
 use mathlib.Core.Path.{◌≡◌, refl}
-use Prim.Native.Nat.{◌-◌}
 use native.Mathlib.Omega.{arith}
 use Rattle.day.proofs.Laws.Lines.{marks_short, marked_none, marked_more}
 use borrow.Author.Rules.{rules}

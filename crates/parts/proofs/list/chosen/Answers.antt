@@ -1,4 +1,4 @@
-use Rattle.std.proofs.Common.{◌≡◌, ◌-◌, ◌<◌, ◌≤◌, List, length, take, ap, ◌∙◌, arith, length-take}
+use Rattle.std.proofs.Common.{◌≡◌, ◌<◌, ◌≤◌, List, length, take, ap, ◌∙◌, arith, length-take}
 use Rattle.parts.specs.declared.list.Message.{Message}
 use Rattle.parts.specs.Messages.{all, used, pack, only, among, chosen_by}
 use Rattle.parts.proofs.Laws.Messages.{length_mapped, used_most, all_to, whole_to, grown_most, chosen_none, chosen_turn}

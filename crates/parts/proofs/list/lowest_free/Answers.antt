@@ -1,4 +1,4 @@
-use Rattle.std.proofs.Common.{◌-◌, sym, refl, ◌∙◌, arith}
+use Rattle.std.proofs.Common.{sym, refl, ◌∙◌, arith}
 use Rattle.parts.specs.Messages.{lowest_free}
 use Rattle.parts.proofs.Laws.Messages.{turn_free, turn_taken, turn_all}
 use Rattle.parts.proofs.Laws.Places.{marked_at}

@@ -1,4 +1,4 @@
-use Rattle.std.proofs.Common.{◌≡◌, ◌-◌, ◌<◌, ◌≤◌, true, length, refl, ◌∙◌, arith, length-set, rules}
+use Rattle.std.proofs.Common.{◌≡◌, ◌<◌, ◌≤◌, true, length, refl, ◌∙◌, arith, length-set, rules}
 use Rattle.parts.specs.Messages.{used}
 use Rattle.parts.proofs.Laws.Messages.{length_mapped, used_most, all_to, whole_to}
 use Rattle.parts.proofs.Laws.Places.{marked_none, marked_more, marked_same}

@@ -1,4 +1,4 @@
-use Rattle.std.proofs.Common.{◌-◌, Bool, true, List, set, refl, ap, ◌∙◌, arith}
+use Rattle.std.proofs.Common.{Bool, true, List, set, refl, ap, ◌∙◌, arith}
 use Rattle.parts.proofs.Laws.Live.{seats_most, filled_more, filled}
 use Rattle.parts.proofs.live.full.Goals as goal
 

@@ -1,7 +1,7 @@
 -- `lists::first_items` meets its contract. The loop's invariant: the messages passed are read, and the rest are as they were.
 use mathlib.Core.Path.{◌≡◌}
 use mathlib.Core.List.{◌++◌}
-use Prim.Native.Nat.{◌+◌, ◌-◌, ◌≤◌}
+use Prim.Native.Nat.{◌-◌, ◌≤◌}
 use lib.ListN.{drop}
 use Rattle.records.specs.Tables.{tab}
 use Rattle.records.specs.Fields.{item_at}

@@ -1,7 +1,7 @@
 -- `live::live_from` meets its contract. The loop's invariant: the octets passed are read, and the rest is as it was.
 use mathlib.Core.Path.{◌≡◌}
 use mathlib.Core.List.{◌++◌}
-use Prim.Native.Nat.{◌+◌, ◌-◌, ◌≤◌}
+use Prim.Native.Nat.{◌-◌, ◌≤◌}
 use lib.ListN.{drop}
 use Rattle.records.specs.Tables.{tab}
 use Rattle.records.specs.Fields.{flag_at}

@@ -1,7 +1,6 @@
 -- `turn::put_turn` meets its contract: its writes, side by side, are one.
 use mathlib.Core.Path.{refl, ◌∙◌}
 use mathlib.Core.List.{◌++◌}
-use Prim.Native.Nat.{◌+◌}
 use native.Mathlib.Omega.{arith}
 use Rattle.codec.specs.Octets.{octets}
 use Rattle.codec.proofs.Laws.Octets.{laid_three}

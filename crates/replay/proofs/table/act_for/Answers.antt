@@ -1,5 +1,5 @@
 -- `table::act_for` meets its contract: what the record asks for is carried out.
-use Rattle.std.proofs.Common.{◌∙◌, arith}
+use Rattle.std.proofs.Common.{arith}
 use Rattle.replay.specs.Table.{plan_in, way_of}
 use Rattle.replay.proofs.Laws.Marks.{asks_named, acts_named}
 use Rattle.replay.proofs.table.act_for.Goals as goal

@@ -1,4 +1,4 @@
-use Rattle.std.proofs.Common.{◌≡◌, ◌∙◌, ℕ, ◌<◌, List, length, refl, subst, sym, true}
+use Rattle.std.proofs.Common.{◌≡◌, ◌∙◌, ℕ, List, length, refl, subst, sym, true}
 use Rattle.capture.specs.Record.{read_record}
 use Rattle.codec.specs.Octets.{laid}
 use Rattle.day.specs.Listening.{asked_read, heard_in}

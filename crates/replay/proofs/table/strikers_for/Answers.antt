@@ -1,7 +1,7 @@
 -- `table::strikers_for` meets its contract: those among the records that the frame may reach.
-use Rattle.std.proofs.Common.{◌≤◌, ap, arith, subst, sym, ◌∙◌}
+use Rattle.std.proofs.Common.{◌≤◌, subst, sym, ◌∙◌}
 use Rattle.bench.specs.declared.table.Handing.{Handing}
-use Rattle.replay.specs.Table.{plan_in, way_of}
+use Rattle.replay.specs.Table.{way_of}
 use Rattle.replay.proofs.Laws.Turns.{plan_most}
 use Rattle.replay.proofs.Laws.Marks.{marks_few, strikers_named}
 use Rattle.replay.proofs.table.strikers_for.Goals as goal

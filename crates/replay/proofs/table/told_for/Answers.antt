@@ -1,5 +1,5 @@
 -- `table::told_for` meets its contract: the call that the record asks for, of the station that it asks for.
-use Rattle.std.proofs.Common.{◌∙◌, ap, sym}
+use Rattle.std.proofs.Common.{◌∙◌}
 use Rattle.replay.specs.Table.{plan_in, way_of}
 use Rattle.replay.proofs.Laws.Marks.{told_named}
 use Rattle.replay.proofs.table.told_for.Goals as goal

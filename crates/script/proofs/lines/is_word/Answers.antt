@@ -1,5 +1,4 @@
 use mathlib.Core.Path.{refl, sym, ◌∙◌}
-use Prim.Native.Nat.{◌-◌}
 use native.Mathlib.Omega.{arith}
 use Rattle.script.proofs.Laws.Words.{same_more, same_not, same_end, same_long}
 use Rattle.script.proofs.lines.is_word.Goals as goal

@@ -1,5 +1,4 @@
 use mathlib.Core.Path.{◌≡◌, refl, sym, ◌∙◌}
-use Prim.Native.Nat.{◌-◌}
 use native.Mathlib.Omega.{arith}
 use lib.ListN.{length}
 use Rattle.script.proofs.Laws.Numbers.{digit, digit_below, digit_above, every_more, every_stops, every_end, value_more, value_end, number_is, number_empty, number_long, number_other, number_large, ten_more, ten_most}

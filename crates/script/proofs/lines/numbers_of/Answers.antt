@@ -1,5 +1,4 @@
 use mathlib.Core.Path.{refl, sym, ◌∙◌}
-use Prim.Native.Nat.{◌-◌}
 use native.Mathlib.Omega.{arith}
 use Rattle.script.specs.Lines.{numbers_of}
 use Rattle.script.proofs.Laws.Numbers.{word_within, behind_read, behind_done}

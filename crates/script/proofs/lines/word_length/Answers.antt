@@ -1,4 +1,3 @@
-use Prim.Native.Nat.{◌-◌}
 use native.Mathlib.Omega.{arith}
 use Rattle.script.proofs.Laws.Words.{first_more, first_stop, first_end}
 use Rattle.script.proofs.lines.word_length.Goals as goal

@@ -1,6 +1,6 @@
 -- `Bench::new` meets its contract. The loop's invariant: what is left to start from here gives the ring.
 use mathlib.Core.Path.{◌≡◌}
-use Prim.Native.Nat.{◌-◌, ◌≤◌}
+use Prim.Native.Nat.{◌≤◌}
 use lib.ListN.{length}
 use Rattle.bench.specs.Ring.{start_down, ring_with}
 use Rattle.bench.proofs.Laws.Starting.{bench_of}
