@@ -16,7 +16,7 @@ pub record BadPlace (ring s : List ℕ) (offset : ℕ) : Type 0 where
   pub within : offset < length s
   pub longest : length s ≤ longest_packet
 
--- the one number that a call gives back holds both: this paper's number in its lower 16 bits, the offset in its upper
+-- the one number that a call gives back holds both: the page's number in its lower 16 bits, the offset in its upper
 pub record Both (r : Read) : Type 0 where
   pub number : read_number r % 65536 ≡ (read_answer r).0
   pub offset : read_number r / 65536 ≡ (read_answer r).1

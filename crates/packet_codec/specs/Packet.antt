@@ -163,7 +163,7 @@ abbrev pub then_looked : Looked → Looked → Looked
 then_looked Sound more = more
 then_looked (Bad from) more = Bad from
 
--- this paper's answer for each case: whether the fields call for 12
+-- the page's answer for each case: whether the fields call for 12
 abbrev pub is_bad : Looked → Bool
 is_bad Sound = false
 is_bad (Bad from) = true
@@ -184,14 +184,14 @@ read_packet ring s =
     ∷ (ltb 3 (identifier s), Refused Identifier)
     ∷ [])
 
--- this paper's number for each case, and the offset, which 12 alone has: 0 beside any other number
+-- the page's number for each case, and the offset, which 12 alone has: 0 beside any other number
 abbrev pub read_answer : Read → ℕ × ℕ
 read_answer (Refused Size) = (10, 0)
 read_answer (Refused Identifier) = (11, 0)
 read_answer (Refused (BadAt offset)) = (12, offset)
 read_answer (Good p) = (0, 0)
 
--- both as the one number that a call gives back: this paper's number in the lower 16 bits, the offset in the upper
+-- both as the one number that a call gives back: the page's number in the lower 16 bits, the offset in the upper
 abbrev pub read_number : Read → ℕ
 read_number r = (read_answer r).0 + 65536 * (read_answer r).1
 

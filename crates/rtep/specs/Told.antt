@@ -1,4 +1,4 @@
--- What a driver in C is told: for each answer of the codec this paper's number and values.
+-- What a driver in C is told: for each answer of the codec the page's number and values.
 use Rattle.std.specs.Prelude.{ℕ, ◌≡◌, Bool, cond, not, List, [], ◌∷◌, ltb, eqb, length, take, get_or}
 use Rattle.codec.specs.Order.{first_of}
 use Rattle.codec.specs.Octets.{laid}

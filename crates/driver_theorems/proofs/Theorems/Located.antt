@@ -13,7 +13,7 @@ use Rattle.driver_calls.specs.Calls.{call_number, bad_buffers, frame_answer, rin
 use Rattle.driver_theorems.proofs.Laws.Numbers.{OfMoves, first_gives, packet_gives}
 
 module _ (ring packet : List ℕ) where
-  -- any other number of this paper
+  -- any other number of the page
   other : (k : ℕ) → k < 65536 → (k ≡ 12 → ⊥) → Located ring packet k
   other k few n = number_located ring packet k few n
 

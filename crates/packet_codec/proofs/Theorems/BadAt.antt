@@ -93,7 +93,7 @@ read_located ring s =
       none = λ n. b.offset ∙ other_none r (λ e. n (b.number ∙ e));
     }
 
--- any other number of this paper has none
+-- any other number of the page has none
 pub number_located : (ring s : List ℕ) (k : ℕ) → k < 65536 → (k ≡ 12 → ⊥) → Located ring s k
 number_located ring s k few other =
     let same : k % 65536 ≡ k = omega arith in
