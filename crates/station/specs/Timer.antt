@@ -2,6 +2,7 @@
 use Rattle.std.specs.Prelude.{ℕ, ltb}
 use Rattle.parts.specs.Choose.{pick}
 use Rattle.parts.specs.Messages.{none}
+use Rattle.parts.specs.Frames.{next}
 use Rattle.sent.specs.Resend.{resend}
 use Rattle.station.specs.Stations.{with_turn, more_turn, awaited_of, quiet, sending, alone, answered, moved}
 use Rattle.station.specs.Sight.{sight}
@@ -11,6 +12,7 @@ use Rattle.parts.specs.declared.moves.State.TheVariants.{Idle, Alone}
 use Rattle.parts.specs.declared.moves.Event.TheVariants.{Timer}
 use Rattle.parts.specs.declared.frame.Whom.TheVariants.{Nobody}
 use Rattle.parts.specs.declared.frame.Frame.{Frame}
+use Rattle.parts.specs.declared.frame.Frame.TheVariants.{Token, Transmit, Information}
 use Rattle.parts.specs.declared.frame.Dispatch.{Dispatch}
 use Rattle.parts.specs.declared.frame.Dispatch.TheVariants.{Nothing, Sent}
 use Rattle.station.specs.declared.station.Station.{Station}
