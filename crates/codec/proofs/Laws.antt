@@ -10,3 +10,4 @@ pub mod Members
 pub mod Forms
 pub mod Written
 pub mod Front
+pub mod Refusals

@@ -3,3 +3,4 @@ pub mod Octets
 pub mod Bits
 pub mod Sizes
 pub mod Ring
+pub mod Refusals

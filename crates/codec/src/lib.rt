@@ -7,5 +7,6 @@ pub mod forms;
 pub mod head;
 pub mod octets;
 pub mod reader;
+pub mod refusal;
 pub mod ring;
 pub mod sizes;
