@@ -4,7 +4,6 @@
 
 ghost use Rattle.std.specs.Prelude.{◌≤◌, length, IfOk};
 
-use parts::frame::Whom;
 use parts::request::Request;
 use script::reading::Held;
 use station::station::{Answer, Station};
@@ -21,8 +20,8 @@ fn tell(rt: &impl Print, a: Answer) -> io::Result<Station> {
     print!(rt; " -> {number}")?;
     let struck = a.struck;
     match struck {
-        Whom::Nobody => {}
-        Whom::Member(p) => print!(rt; ", struck {p}")?,
+        None => {}
+        Some(p) => print!(rt; ", struck {p}")?,
     }
     Ok(a.station)
 }

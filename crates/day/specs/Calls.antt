@@ -1,10 +1,7 @@
 -- A call of one station: its timer, or a message that it is handed.
-use Rattle.std.specs.Prelude.{Bool, false, List, ◌++◌, ℕ}
+use Rattle.std.specs.Prelude.{Bool, false, List, ◌++◌, ℕ, Option, None}
 use Rattle.parts.specs.Choose.{pick}
-use Rattle.parts.specs.declared.frame.Dispatch.{Dispatch}
-use Rattle.parts.specs.declared.frame.Dispatch.TheVariants.{Nothing}
-use Rattle.parts.specs.declared.frame.Whom.{Whom}
-use Rattle.parts.specs.declared.frame.Whom.TheVariants.{Nobody}
+use Rattle.parts.specs.Frames.{Dispatch}
 use Rattle.station.specs.Queue.{queue_rule}
 use Rattle.station.specs.Timer.{timer_rule}
 use Rattle.station.specs.declared.station.Station.{Station}
@@ -19,12 +16,12 @@ use Rattle.day.specs.declared.calls.Told.{Told}
 use Rattle.day.specs.declared.calls.Answered.{Answered}
 use Rattle.day.specs.declared.calls.Kept.{Kept}
 
-abbrev pub told : ℕ → Dispatch → Whom → Told
+abbrev pub told : ℕ → Dispatch → Option ℕ → Told
 told number sent struck = record { number = number; sent = sent; struck = struck }
 
 -- a number alone: the station stays as it is
 abbrev pub refused_by : Station → ℕ → Answered
-refused_by s number = record { station = s; told = told number Nothing Nobody }
+refused_by s number = record { station = s; told = told number None None }
 
 -- with no room on the wire a timer that would send is refused, and nothing changes
 abbrev pub timed : Station → Bool → Answer → Answered

@@ -4,7 +4,7 @@ ghost use Rattle.parts.specs.Choose.{pick};
 ghost use Rattle.bench.specs.Delivery.{is_sent};
 ghost use Rattle.day.specs.Calls.{refused_by, timed, called_by, told_by, kept_by};
 
-use parts::frame::{Dispatch, Whom};
+use parts::frame::Dispatch;
 use parts::request::Request;
 use station::station::{Answer, Station};
 
@@ -23,7 +23,7 @@ pub enum Call {
 pub struct Told {
     pub number: u32,
     pub sent: Dispatch,
-    pub struck: Whom,
+    pub struck: Option<u8>,
 }
 
 #[derive(Drop)]
@@ -45,8 +45,8 @@ pub fn is_sent(d: Dispatch) -> bool
     ensures { result ≡ is_sent d }
 {
     match d {
-        Dispatch::Sent { frame: _, to: _ } => true,
-        Dispatch::Nothing => false,
+        Some((_, _)) => true,
+        None => false,
     }
 }
 
@@ -58,8 +58,8 @@ pub fn refused(s: Station, number: u32) -> Answered
         station: s,
         told: Told {
             number,
-            sent: Dispatch::Nothing,
-            struck: Whom::Nobody,
+            sent: None,
+            struck: None,
         },
     }
 }

@@ -1,5 +1,5 @@
 -- Striking a station, giving messages up, and telling both.
-use Rattle.std.specs.Prelude.{ℕ}
+use Rattle.std.specs.Prelude.{ℕ, Option}
 use Rattle.parts.specs.Choose.{pick}
 use Rattle.parts.specs.Messages.{none, best, split_by, pushed}
 use Rattle.parts.specs.Live.{without}
@@ -9,7 +9,6 @@ use Rattle.parts.specs.declared.moves.State.{State}
 use Rattle.parts.specs.declared.list.Best.{Best}
 use Rattle.parts.specs.declared.list.Messages.{Messages}
 use Rattle.parts.specs.declared.list.Which.TheVariants.{WaitingFor, HasPlace}
-use Rattle.parts.specs.declared.frame.Whom.{Whom}
 use Rattle.station.specs.declared.station.Station.{Station}
 
 -- a station and the messages that have left its send list, in order, not counted yet
@@ -20,7 +19,7 @@ pub record Loss : Type 0 where
 -- a station after a striking: who is newly struck, and the messages given up
 pub record Struck : Type 0 where
   pub station : Station
-  pub struck : Whom
+  pub struck : Option ℕ
   pub gone : Messages
 
 -- `p` is struck from the live set
@@ -60,11 +59,11 @@ give_up_flight l =
     pick (flight (awaited_of l.station)).on (give_up_at l (flight (awaited_of l.station)).place) l
 
 -- what was given up is counted, and told with the station newly struck
-abbrev pub told : Loss → Whom → Struck
+abbrev pub told : Loss → Option ℕ → Struck
 told l w = record { station = counted l.station l.gone.len; struck = w; gone = l.gone }
 
 -- "at Excluded and Alone a message in flight is given up and nothing more happens"
-abbrev pub stopped : Loss → Whom → State → Struck
+abbrev pub stopped : Loss → Option ℕ → State → Struck
 stopped l w st =
     record {
       station = quiet (told (give_up_flight l) w).station st;

@@ -1,11 +1,11 @@
 -- "A record is whole if ...", for all but the record's octets.
-use Rattle.std.specs.Prelude.{Bool, true, false, not, ◌||◌, List, [], ◌∷◌, ◌++◌, ℕ, suc, drop, ltb, leb, eqb}
+use Rattle.std.specs.Prelude.{Bool, true, false, not, ◌||◌, List, [], ◌∷◌, ◌++◌, ℕ, suc, drop, ltb, leb, eqb, None, Some}
 use Rattle.codec.specs.Sizes.{most_information}
 use Rattle.parts.specs.Choose.{pick, all_of, every}
 use Rattle.parts.specs.Moves.{is_waiting, is_excluded}
 use Rattle.parts.specs.Messages.{all, flies, has_place, best}
 use Rattle.parts.specs.Live.{live_at}
-use Rattle.parts.specs.Frames.{fit, flight}
+use Rattle.parts.specs.Frames.{fit, flight, Dispatch}
 use Rattle.station.specs.Stations.{state_of, awaited_of, alone}
 use Rattle.parts.specs.declared.moves.State.{State}
 use Rattle.parts.specs.declared.moves.State.TheVariants.{Offline, Idle, Waiting, Alone, Excluded}
@@ -18,8 +18,6 @@ use Rattle.parts.specs.declared.list.Which.TheVariants.{HasPlace}
 use Rattle.parts.specs.declared.frame.InformationFrame.{InformationFrame}
 use Rattle.parts.specs.declared.frame.Frame.{Frame}
 use Rattle.parts.specs.declared.frame.Frame.TheVariants.{Token, Transmit, Information}
-use Rattle.parts.specs.declared.frame.Dispatch.{Dispatch}
-use Rattle.parts.specs.declared.frame.Dispatch.TheVariants.{Nothing, Sent}
 use Rattle.station.specs.declared.station.Turn.{Turn}
 use Rattle.station.specs.declared.station.Station.{Station}
 
@@ -131,8 +129,8 @@ carried l (Transmit t) to = true
 carried l (Information i) to = same_message (best (HasPlace i.place) l) to i
 
 unfoldable pub awaited_good : State → ℕ → ℕ → Messages → Dispatch → Bool
-awaited_good st n own l Nothing = not (is_waiting st)
-awaited_good st n own l (Sent frame to) =
+awaited_good st n own l None = not (is_waiting st)
+awaited_good st n own l (Some (frame, to)) =
     all_of (is_waiting st ∷ fit n frame ∷ ltb to n ∷ not (eqb to own) ∷ carried l frame to ∷ [])
 
 -- ---- the turn: the retry count is at most R

@@ -256,7 +256,7 @@ pub fn carried(l: Messages, f: Frame, to: u8) -> bool
 }
 
 pub fn frame_good(state: State, n: u8, own: u8, l: Messages, f: Frame, to: u8) -> bool
-    ensures { result ≡ awaited_good state n own l (Dispatch.Sent f to) }
+    ensures { result ≡ awaited_good state n own l (Some (f, to)) }
 {
     if !parts::moves::is_waiting(state) {
         return false;
@@ -277,8 +277,8 @@ pub fn awaited_good(state: State, n: u8, own: u8, l: Messages, d: Dispatch) -> b
     ensures { result ≡ awaited_good state n own l d }
 {
     match d {
-        Dispatch::Nothing => !parts::moves::is_waiting(state),
-        Dispatch::Sent { frame, to } => frame_good(state, n, own, l, frame, to),
+        None => !parts::moves::is_waiting(state),
+        Some((frame, to)) => frame_good(state, n, own, l, frame, to),
     }
 }
 

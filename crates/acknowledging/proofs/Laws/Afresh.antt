@@ -18,12 +18,10 @@ use Rattle.parts.specs.declared.moves.Event.{Event}
 use Rattle.parts.specs.declared.moves.Event.TheVariants.{Heard, Queue}
 use Rattle.parts.specs.declared.list.Message.{Message}
 use Rattle.parts.specs.declared.request.Request.{Request}
-use Rattle.parts.specs.declared.frame.Whom.{Whom}
-use Rattle.parts.specs.declared.frame.Whom.TheVariants.{Nobody, Member}
+use Rattle.std.specs.Prelude.{Option, None, Some}
 use Rattle.parts.specs.declared.frame.Frame.{Frame}
 use Rattle.parts.specs.declared.frame.Frame.TheVariants.{Token, Transmit, Information}
 use Rattle.station.specs.declared.station.Station.{Station}
-use Rattle.station.specs.declared.station.Payload.TheVariants.{NoPayload, Of}
 use Rattle.station.specs.declared.station.Answer.{Answer}
 use Rattle.bench.proofs.Laws.StandsBy.{either}
 use Rattle.acknowledging.specs.Missing.{fresh}
@@ -79,11 +77,11 @@ fresh_up_flight l =
     both_ways (flight (awaited_of l.station)).on (fresh_up_at l (flight (awaited_of l.station)).place) refl
     ∙ sym (pick_through fresh_loss (flight (awaited_of l.station)).on (give_up_at l (flight (awaited_of l.station)).place) l)
 
-fresh_stopped : (l : Loss) (w : Whom) (st : State) → stopped (fresh_loss l) w st ≡ fresh_struck (stopped l w st)
+fresh_stopped : (l : Loss) (w : Option ℕ) (st : State) → stopped (fresh_loss l) w st ≡ fresh_struck (stopped l w st)
 fresh_stopped l w st =
     ap (λ (m : Loss). let k : Struck = record { station = quiet (told m w).station st; struck = w; gone = (told m w).gone } in k) (fresh_up_flight l)
 
-fresh_other : (s : Station) (p : ℕ) (w : Whom) → strike_other (fresh s) p w ≡ fresh_struck (strike_other s p w)
+fresh_other : (s : Station) (p : ℕ) (w : Option ℕ) → strike_other (fresh s) p w ≡ fresh_struck (strike_other s p w)
 unfolding strike_other
 fresh_other s p w =
     both_ways (alone (strike s p))
@@ -97,10 +95,10 @@ fresh_heard_strike s p =
     both_ways (eqb p s.own) (fresh_stopped (nothing_gone (strike s p)) (newly s.live p) Excluded) (fresh_other s p (newly s.live p))
     ∙ sym (pick_through fresh_struck (eqb p s.own) (stopped (nothing_gone (strike s p)) (newly s.live p) Excluded) (strike_other s p (newly s.live p)))
 
-fresh_failed : (s : Station) (w : Whom) → failed (fresh s) w ≡ fresh_struck (failed s w)
+fresh_failed : (s : Station) (w : Option ℕ) → failed (fresh s) w ≡ fresh_struck (failed s w)
 unfolding failed
-fresh_failed s Nobody = refl
-fresh_failed s (Member p) = fresh_heard_strike s p
+fresh_failed s None = refl
+fresh_failed s (Some p) = fresh_heard_strike s p
 
 -- ---- what is sent
 
@@ -109,8 +107,8 @@ unfolding receive
 fresh_receive s m =
     sym
     (pick_through fresh_stored_lem (leb 16 s.receives.len)
-    (record { station = with_lost s (add_up_to s.counts.lost 1); payload = NoPayload })
-    (record { station = with_receives s (pushed s.receives m); payload = Of m }))
+    (record { station = with_lost s (add_up_to s.counts.lost 1); payload = None })
+    (record { station = with_receives s (pushed s.receives m); payload = Some m }))
 
 fresh_stored : (s : Station) (from : ℕ) (f : Frame) → stored (fresh s) from f ≡ fresh_stored_lem (stored s from f)
 unfolding stored

@@ -11,10 +11,8 @@ use Rattle.sent.specs.Round.{reply}
 use Rattle.station.specs.Heard.{acknowledge, is_last, stored, frame_rule}
 use Rattle.parts.specs.declared.moves.State.TheVariants.{Idle, Waiting}
 use Rattle.parts.specs.declared.list.Best.{Best}
-use Rattle.parts.specs.declared.frame.Whom.TheVariants.{Nobody}
+use Rattle.std.specs.Prelude.{None, Some}
 use Rattle.parts.specs.declared.frame.Frame.{Frame}
-use Rattle.parts.specs.declared.frame.Dispatch.TheVariants.{Nothing}
-use Rattle.station.specs.declared.station.Handled.TheVariants.{Last}
 use Rattle.station.specs.declared.station.Turn.{Turn}
 use Rattle.station.specs.declared.station.Station.{Station}
 use Rattle.station.specs.declared.station.Answer.{Answer}
@@ -34,8 +32,8 @@ view n p h = record { own = p; live = full n; next = after n p; head = h }
 -- nothing is sent, and the station is Idle
 pub record Silent (n limit p : ℕ) (s : Station) (a : Answer) : Type 0 where
   pub number : a.number ≡ 0
-  pub sent : a.sent ≡ Nothing
-  pub nobody_struck : a.struck ≡ Nobody
+  pub sent : a.sent ≡ None
+  pub nobody_struck : a.struck ≡ None
   pub none_gone : a.gone ≡ none
   pub member : Member n limit p a.station
   pub at_rest : state_of a.station ≡ Idle
@@ -46,12 +44,12 @@ pub record Silent (n limit p : ℕ) (s : Station) (a : Answer) : Type 0 where
 pub record Answering (n limit p : ℕ) (f : Frame) (s : Station) (a : Answer) : Type 0 where
   pub number : a.number ≡ 0
   pub sent : a.sent ≡ reply (view n p (head s)) f
-  pub nobody_struck : a.struck ≡ Nobody
+  pub nobody_struck : a.struck ≡ None
   pub none_gone : a.gone ≡ none
   pub member : Member n limit p a.station
   pub waiting : state_of a.station ≡ Waiting
   pub awaited : awaited_of a.station ≡ a.sent
-  pub handled : a.station.turn.handled ≡ Last (number_of f)
+  pub handled : a.station.turn.handled ≡ Some (number_of f)
   pub same_head : flight a.sent ≡ no_flight → head a.station ≡ head s
 
 sight_view : (n p : ℕ) (h : Best) (s : Station) → 2 ≤ n → n ≤ 64 → p < n → s.n ≡ n → s.own ≡ p → s.live ≡ full n → head s ≡ h → sight s ≡ view n p h

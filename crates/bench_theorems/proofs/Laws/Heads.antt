@@ -7,7 +7,7 @@ use lib.Dec.{eqb}
 use borrow.Author.Tests.{eqb-true, eqb-false, eq-eqb, ne_eqb}
 use Rattle.parts.specs.Choose.{pick}
 use Rattle.parts.specs.Messages.{all, fits, only, split_by, no_best, better_of, best_of, best}
-use Rattle.parts.specs.Frames.{no_flight, flight}
+use Rattle.parts.specs.Frames.{no_flight, flight, Dispatch}
 use Rattle.parts.specs.Moves.{is_waiting}
 use Rattle.station.specs.Stations.{state_of, awaited_of, quiet, head}
 use Rattle.station.specs.Strike.{leave}
@@ -20,8 +20,7 @@ use Rattle.parts.specs.declared.list.Best.{Best}
 use Rattle.parts.specs.declared.list.Which.{Which}
 use Rattle.parts.specs.declared.list.Which.TheVariants.{AnyWaiting, HasPlace}
 use Rattle.parts.specs.declared.frame.Frame.TheVariants.{Token, Transmit, Information}
-use Rattle.parts.specs.declared.frame.Dispatch.{Dispatch}
-use Rattle.parts.specs.declared.frame.Dispatch.TheVariants.{Nothing, Sent}
+use Rattle.std.specs.Prelude.{None, Some}
 use Rattle.station.specs.declared.station.Station.{Station}
 use Rattle.parts.proofs.Laws.Messages.{best_none, best_more, only_none, only_one, only_not, better_unfit}
 use Rattle.station_theorems.specs.Shaped.{WholeStation}
@@ -84,10 +83,10 @@ unfolding split_by
 left_all s p = pack_all (only (others p) (all s.sends))
 
 no_flight_lem : (d : Dispatch) → (flight d).on ≡ false → flight d ≡ no_flight
-no_flight_lem Nothing e = refl
-no_flight_lem (Sent (Token t) to) e = refl
-no_flight_lem (Sent (Transmit t) to) e = refl
-no_flight_lem (Sent (Information i) to) e = absurd (false≢true (sym e))
+no_flight_lem None e = refl
+no_flight_lem (Some (Token t, to)) e = refl
+no_flight_lem (Some (Transmit t, to)) e = refl
+no_flight_lem (Some (Information i, to)) e = absurd (false≢true (sym e))
 
 a_flight : (f : Flight) → f.on ≡ true → f ≡ flown f.place
 a_flight f e = ap (λ (t : Bool). let r : Flight = record { on = t; place = f.place } in r) e

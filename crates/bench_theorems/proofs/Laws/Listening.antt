@@ -5,7 +5,7 @@ use mathlib.Core.Bool.{Bool, true, false}
 use Prim.Native.Nat.{ℕ}
 use Rattle.parts.specs.Choose.{pick}
 use Rattle.parts.specs.Moves.{move_of, runs, is_waiting}
-use Rattle.parts.specs.Frames.{number_of, flight, is_ahead, acknowledges}
+use Rattle.parts.specs.Frames.{number_of, flight, is_ahead, acknowledges, Dispatch}
 use Rattle.station.specs.Stations.{state_of, awaited_of, quiet}
 use Rattle.station.specs.Strike.{leave}
 use Rattle.station.specs.Heard.{acknowledged, landed, acknowledge}
@@ -13,8 +13,7 @@ use Rattle.parts.specs.declared.moves.State.{State}
 use Rattle.parts.specs.declared.moves.State.TheVariants.{Idle, Waiting}
 use Rattle.parts.specs.declared.moves.Event.TheVariants.{Heard}
 use Rattle.parts.specs.declared.frame.Frame.{Frame}
-use Rattle.parts.specs.declared.frame.Dispatch.{Dispatch}
-use Rattle.parts.specs.declared.frame.Dispatch.TheVariants.{Sent}
+use Rattle.std.specs.Prelude.{Some}
 use Rattle.station.specs.declared.station.Station.{Station}
 use Rattle.parts.proofs.Laws.Choose.{pick_true}
 use Rattle.bench.proofs.Laws.StandsBy.{unacknowledged}
@@ -41,7 +40,7 @@ listens_runs (idle i) = ap (λ (st : State). move_of st Heard) i
 listens_runs (waits w e) = ap (λ (st : State). move_of st Heard) w
 
 -- a station that waits is acknowledged by a number that lies ahead of its frame's
-pub ahead_acknowledges : (s : Station) (from k : ℕ) (g : Frame) (to : ℕ) → state_of s ≡ Waiting → awaited_of s ≡ Sent g to
+pub ahead_acknowledges : (s : Station) (from k : ℕ) (g : Frame) (to : ℕ) → state_of s ≡ Waiting → awaited_of s ≡ Some (g, to)
     → acknowledged s from k ≡ is_ahead (number_of g) k
 unfolding acknowledged acknowledges
 ahead_acknowledges s from k g to w a = pick_true _ _ (ap is_waiting w) ∙ ap (λ (d : Dispatch). acknowledges d from k) a

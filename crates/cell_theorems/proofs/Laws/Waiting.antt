@@ -9,8 +9,7 @@ use borrow.Author.Tests.{eqb-true, eqb-false, eq-eqb, ne_eqb}
 use lib.ListN.{length, length-append}
 use Rattle.parts.specs.Choose.{pick}
 use Rattle.parts.specs.Messages.{all, flies, lowest_free}
-use Rattle.parts.specs.Frames.{flight}
-use Rattle.parts.specs.declared.frame.Dispatch.{Dispatch}
+use Rattle.parts.specs.Frames.{flight, Dispatch}
 use Rattle.station.specs.Stations.{awaited_of}
 use Rattle.station.specs.declared.station.Station.{Station}
 use Rattle.driver_calls.specs.Calls.{station_in}

@@ -11,8 +11,8 @@ use Rattle.packet_codec.specs.declared.reading.Refusal.TheVariants.{Size, Identi
 use Rattle.packet_codec.specs.declared.reading.Read.{Read}
 use Rattle.packet_codec.specs.declared.reading.Read.TheVariants.{Refused, Good}
 use Rattle.parts.specs.declared.request.Request.{Request}
-use Rattle.parts.specs.declared.frame.Dispatch.{Dispatch}
-use Rattle.parts.specs.declared.frame.Dispatch.TheVariants.{Nothing, Sent}
+use Rattle.parts.specs.Frames.{Dispatch}
+use Rattle.std.specs.Prelude.{None, Some}
 use Rattle.parts.specs.declared.list.Best.{Best}
 use Rattle.station.specs.Stations.{awaited_of, alone}
 use Rattle.station.specs.Start.{started, start_rule}
@@ -57,8 +57,8 @@ start_other s = moved_gives Other of_moves s _ _ (pick_keeps (Gives Other) (eqb 
 
 on_timer_other : (s : Station) (d : Dispatch) → Gives Other (on_timer s d)
 unfolding on_timer silence after_strike
-on_timer_other s Nothing = not_0
-on_timer_other s (Sent f to) = pick_keeps (Gives Other) _ _ _ not_0 (pick_keeps (Gives Other) (alone (unanswered s to).station) _ _ not_0 not_0)
+on_timer_other s None = not_0
+on_timer_other s (Some (f, to)) = pick_keeps (Gives Other) _ _ _ not_0 (pick_keeps (Gives Other) (alone (unanswered s to).station) _ _ not_0 not_0)
 
 timer_other : (s : Station) → Gives Other (timer_rule s)
 unfolding timer_rule

@@ -10,11 +10,9 @@ use lib.ListN.{length, get_or, drop, set, length-append}
 use lib.Seq.{set-get_or, take_all}
 use borrow.Author.Tests.{eq-eqb, ne_eqb, ltb-true}
 use Rattle.parts.specs.Choose.{pick}
-use Rattle.parts.specs.Frames.{failing_of}
+use Rattle.parts.specs.Frames.{failing_of, Dispatch}
 use Rattle.parts.specs.declared.live.Live.{Live}
-use Rattle.parts.specs.declared.frame.Dispatch.{Dispatch}
-use Rattle.parts.specs.declared.frame.Dispatch.TheVariants.{Nothing, Sent}
-use Rattle.parts.specs.declared.frame.Whom.TheVariants.{Nobody}
+use Rattle.std.specs.Prelude.{None, Some}
 use Rattle.parts.specs.declared.request.Request.{Request}
 use Rattle.parts.proofs.Laws.Choose.{pick_true, pick_false}
 use Rattle.station.specs.Stations.{moved, unless}
@@ -92,8 +90,8 @@ idle_table p c ss = ap (called_in p c) (unheard_all 0 (hears no_handing) no_fram
 
 joined_few : (wire : List Flying) (p : ℕ) (d : Dispatch) → length wire ≤ 64 → (is_sent d ≡ true → length wire < 64) → joined_by wire p d ≡ wire ++ joining p d
 unfolding joining
-joined_few wire p Nothing few room = take_all 64 (wire ++ []) (omega (arith, length-append wire []))
-joined_few wire p (Sent frame to) few room =
+joined_few wire p None few room = take_all 64 (wire ++ []) (omega (arith, length-append wire []))
+joined_few wire p (Some (frame, to)) few room =
     let less : length wire < 64 = room refl in
     take_all 64 (wire ++ _) (omega (arith, length-append wire (record { from = p; frame = frame; to = to } ∷ [])))
 
@@ -119,7 +117,7 @@ module _ (n : ℕ) (ss : List Station) (size : length ss ≡ 64) where
       × ((take_frame e (day_of wire) wire).n ≡ n)
 
   -- nobody is handed anything, and nothing is printed
-  no_reply : (taken_in no_handing ss).reply ≡ Nothing
+  no_reply : (taken_in no_handing ss).reply ≡ None
   no_reply = unsent 0 (hears no_handing) no_frame 0 0 0 (get_or ss 0 nobody) (none_at_all (hears no_handing) 0)
 
   no_text : taken_text no_handing (taken_in no_handing ss) ≡ []
@@ -158,16 +156,16 @@ module _ (n : ℕ) (ss : List Station) (size : length ss ≡ 64) where
 
 -- ---- a queue call sends nothing
 
-sent_in : (b : Bool) (x y : Answer) → x.sent ≡ Nothing → y.sent ≡ Nothing → (pick b x y).sent ≡ Nothing
+sent_in : (b : Bool) (x y : Answer) → x.sent ≡ None → y.sent ≡ None → (pick b x y).sent ≡ None
 unfolding pick
 sent_in true x y p q = p
 sent_in false x y p q = q
 
-queue_silent : (s : Station) (q : Request) → (queue_rule s q).sent ≡ Nothing
+queue_silent : (s : Station) (q : Request) → (queue_rule s q).sent ≡ None
 unfolding queue_rule moved unless accepted
 queue_silent s q = sent_in _ _ _ (sent_in _ _ _ refl refl) refl
 
-silent_joins : (wire : List Flying) (p : ℕ) → wire ++ joining p Nothing ≡ wire
+silent_joins : (wire : List Flying) (p : ℕ) → wire ++ joining p None ≡ wire
 unfolding joining
 silent_joins wire p = append-nil wire
 
@@ -281,10 +279,10 @@ module _ (w : Way) (ss : List Station) (size : length ss ≡ 64) (going : w.numb
         let number : event_number (day_in w ss) (Timer p) ≡ 36 = pick_true 36 0 (full_is ∙ t) in (
           ap (λ (l : List Station). course_in (after_timer w next p (timed seat (ltb (length w.wire) most_frames) rung).told) l) (idle_table p (TimerCall (ltb (length w.wire) most_frames)) ss ∙ ap (λ (k : Answered). set ss p k.station) c ∙ set-get_or ss p nobody)
               ∙ ap (λ (k : Answered). course_in (after_timer w next p k.told) ss) c
-              ∙ ap (λ (x : Way). course_in x ss) (pick_false (onward w (joined_by w.wire p Nothing) next (called_text p (told 36 Nothing Nobody))) (halted w 36 (stopped_text 36 w.done)) refl)
+              ∙ ap (λ (x : Way). course_in x ss) (pick_false (onward w (joined_by w.wire p None) next (called_text p (told 36 None None))) (halted w 36 (stopped_text 36 w.done)) refl)
               ∙ sym (stops (course_in w ss) going (good (Timer p)) 36 number (λ z. absurd (omega (arith, z)))),
           ap (λ (k : Answered). timer_lines w.done p k.told) c
-              ∙ pick_false (called_text p (told 36 Nothing Nobody)) (stopped_text 36 w.done) refl
+              ∙ pick_false (called_text p (told 36 None None)) (stopped_text 36 w.done) refl
               ∙ sym (stops_text (course_in w ss) going (good (Timer p)) 36 number (λ z. absurd (omega (arith, z)))),
         )
 

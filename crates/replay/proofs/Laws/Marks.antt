@@ -11,7 +11,7 @@ use Rattle.station.specs.declared.station.Station.{Station}
 use Rattle.bench.specs.declared.table.Handing.{Handing}
 use Rattle.codec.specs.Octets.{laid}
 use Rattle.parts.specs.Live.{seats}
-use Rattle.parts.specs.declared.frame.Dispatch.{Dispatch}
+use Rattle.parts.specs.Frames.{Dispatch}
 use Rattle.bench.specs.Ring.{nobody}
 use Rattle.bench.specs.Delivery.{is_quiet}
 use Rattle.capture.specs.declared.record.Read.{Read}

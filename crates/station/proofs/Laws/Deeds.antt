@@ -6,7 +6,7 @@ use native.Mathlib.Omega.{arith}
 use lib.Dec.{eqb, leb}
 use Rattle.parts.specs.Choose.{pick}
 use Rattle.parts.specs.Messages.{pushed, split_by, chosen_by, best}
-use Rattle.parts.specs.Frames.{flight}
+use Rattle.parts.specs.Frames.{flight, Dispatch}
 use Rattle.parts.specs.Live.{newly}
 use Rattle.station.specs.Stations.{station_by, with_turn, with_sends, with_receives, with_lost, awaited_of, quiet, quiet_turn, add_up_to, alone, head}
 use Rattle.station.specs.Sight.{sight}
@@ -22,13 +22,9 @@ use Rattle.parts.specs.declared.list.Parts.{Parts}
 use Rattle.parts.specs.declared.list.Flight.{Flight}
 use Rattle.parts.specs.declared.list.Which.{Which}
 use Rattle.parts.specs.declared.list.Which.TheVariants.{WaitingFor, HasPlace}
-use Rattle.parts.specs.declared.frame.Whom.{Whom}
-use Rattle.parts.specs.declared.frame.Whom.TheVariants.{Nobody, Member}
-use Rattle.parts.specs.declared.frame.Dispatch.{Dispatch}
+use Rattle.std.specs.Prelude.{Option, None, Some}
 use Rattle.station.specs.declared.station.Turn.{Turn}
 use Rattle.station.specs.declared.station.Station.{Station}
-use Rattle.station.specs.declared.station.Payload.{Payload}
-use Rattle.station.specs.declared.station.Payload.TheVariants.{NoPayload, Of}
 use Rattle.station.specs.declared.rules.deeds.Blow.{Blow}
 use Rattle.station.specs.declared.rules.deeds.Blow.TheVariants as blow
 use Rattle.station.specs.declared.rules.deeds.Verdict.{Verdict}
@@ -93,7 +89,7 @@ add_none c =
 abbrev hit_by : Station → Blow → Struck
 hit_by s b = struck_of s b (closed s.turn b) (leaving b (flight (awaited_of s)) s.sends)
 
-abbrev ended : Whom → State → Loss → Struck
+abbrev ended : Option ℕ → State → Loss → Struck
 ended w st l = record { station = quiet (told l w).station st; struck = w; gone = (told l w).gone }
 
 module _ (s : Station) (p : ℕ) where
@@ -121,10 +117,10 @@ module _ (s : Station) (p : ℕ) where
       go false true = hits_last
       go false false = hits_another
 
-pub fails : (s : Station) (w : Whom) → failed s w ≡ hit_by s (blow_of s.live s.n s.own w)
+pub fails : (s : Station) (w : Option ℕ) → failed s w ≡ hit_by s (blow_of s.live s.n s.own w)
 unfolding failed blow_of closed leaving live_after struck_by
-fails s Nobody = rw (add_none s.counts.givenup)
-fails s (Member p) = hits s p
+fails s None = rw (add_none s.counts.givenup)
+fails s (Some p) = hits s p
 
 -- the last timer
 pub strikes_out_lem : (s : Station) (to : ℕ)
@@ -175,14 +171,14 @@ module _ (s : Station) (m : Message) where
       by_page : Bool → Stored
       by_page b =
           pick {A = Stored} b
-          (record { station = with_lost s (add_up_to s.counts.lost 1); payload = NoPayload })
-          (record { station = with_receives s (pushed s.receives m); payload = Of m })
+          (record { station = with_lost s (add_up_to s.counts.lost 1); payload = None })
+          (record { station = with_receives s (pushed s.receives m); payload = Some m })
 
       by_list : Bool → Received
       by_list b =
           pick b
-          (record { list = s.receives; lost = add_up_to s.counts.lost 1; payload = NoPayload })
-          (record { list = pushed s.receives m; lost = s.counts.lost; payload = Of m })
+          (record { list = s.receives; lost = add_up_to s.counts.lost 1; payload = None })
+          (record { list = pushed s.receives m; lost = s.counts.lost; payload = Some m })
 
       go : (b : Bool)
           → ◌≡◌ {A = Stored}
@@ -203,8 +199,8 @@ module _ (s : Station) (m : Message) where
       go : (b : Bool)
           → sight
           (pick {A = Stored} b
-          (record { station = with_lost s (add_up_to s.counts.lost 1); payload = NoPayload })
-          (record { station = with_receives s (pushed s.receives m); payload = Of m })
+          (record { station = with_lost s (add_up_to s.counts.lost 1); payload = None })
+          (record { station = with_receives s (pushed s.receives m); payload = Some m })
           ).station
           ≡ sight s
       go true = refl
@@ -228,7 +224,7 @@ does_nothing s v = go v.deeds.lands.on v.deeds.blow v.deeds.stores
         station_by s.n s.limit s.own (live_after s.live b) (parts a b).kept r.list v.turn
         (record { lost = r.lost; givenup = add_up_to s.counts.givenup (parts a b).gone.len })
 
-    go : (a : Bool) (b : Blow) (p : Payload) → pick a false (pick (spares b) (stores_none p) false) ≡ true
+    go : (a : Bool) (b : Blow) (p : Option Message) → pick a false (pick (spares b) (stores_none p) false) ≡ true
         → turn_alone s v
         ≡ record {
           station = kept a b (received s.receives s.counts.lost p);
@@ -239,8 +235,8 @@ does_nothing s v = go v.deeds.lands.on v.deeds.blow v.deeds.stores
           payload = (received s.receives s.counts.lost p).payload;
         }
     go true b p e = absurd (false≢true e)
-    go false blow.Spares NoPayload e = rw (add_none s.counts.givenup)
-    go false blow.Spares (Of m) e = absurd (false≢true e)
+    go false blow.Spares None e = rw (add_none s.counts.givenup)
+    go false blow.Spares (Some m) e = absurd (false≢true e)
     go false (blow.Another q) p e = absurd (false≢true e)
     go false (blow.Last q) p e = absurd (false≢true e)
     go false (blow.Itself q) p e = absurd (false≢true e)

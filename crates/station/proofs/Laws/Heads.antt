@@ -14,8 +14,7 @@ use Rattle.parts.specs.declared.list.Messages.{Messages}
 use Rattle.parts.specs.declared.list.Parts.{Parts}
 use Rattle.parts.specs.declared.list.Flight.{Flight}
 use Rattle.parts.specs.declared.list.Which.TheVariants.{AnyWaiting, WaitingFor, WaitingForOthers, HasPlace}
-use Rattle.parts.specs.declared.frame.Whom.{Whom}
-use Rattle.parts.specs.declared.frame.Whom.TheVariants.{Nobody, Member}
+use Rattle.std.specs.Prelude.{Option, None, Some}
 use Rattle.station.specs.declared.station.Turn.{Turn}
 use Rattle.parts.proofs.Laws.Best.{best_alike, best_of_kept, best_none_gone}
 
@@ -29,21 +28,21 @@ turned_round a b = go (eqb a b) refl
     go false e = e ∙ sym (ne_eqb b a (λ h. eqb-false a b e (sym h)))
 
 -- whom a message is for
-abbrev spared : Whom → Message → Bool
-spared Nobody m = true
-spared (Member p) m = not (eqb m.other p)
+abbrev spared : Option ℕ → Message → Bool
+spared None m = true
+spared (Some p) m = not (eqb m.other p)
 
 and-true : (b : Bool) → b ≡ b && true
 and-true true = refl
 and-true false = refl
 
-competes : (f : Flight) (w : Whom) (m : Message) → fits (competing f w) m ≡ not (flies f m) && spared w m
+competes : (f : Flight) (w : Option ℕ) (m : Message) → fits (competing f w) m ≡ not (flies f m) && spared w m
 unfolding fits competing
-competes f Nobody m = and-true (not (flies f m))
-competes f (Member p) m = refl
+competes f None m = and-true (not (flies f m))
+competes f (Some p) m = refl
 
 -- who has the place of the one in flight does not compete
-landed_test : (f : Flight) (w : Whom) (m : Message) → f.on ≡ true
+landed_test : (f : Flight) (w : Option ℕ) (m : Message) → f.on ≡ true
     → fits (competing f w) m ≡ not (fits (HasPlace f.place) m) && fits (competing no_flight w) m
 unfolding fits
 landed_test f w m on =
@@ -52,19 +51,19 @@ landed_test f w m on =
     ∙ ap (λ (b : Bool). not b && spared w m) (turned_round f.place m.place)
     ∙ ap (λ (b : Bool). not (eqb m.place f.place) && b) (sym (competes no_flight w m))
 
-quiet_test : (f : Flight) (w : Whom) (m : Message) → f.on ≡ false → fits (competing no_flight w) m ≡ fits (competing f w) m
+quiet_test : (f : Flight) (w : Option ℕ) (m : Message) → f.on ≡ false → fits (competing no_flight w) m ≡ fits (competing f w) m
 quiet_test f w m off =
     competes no_flight w m
     ∙ ap (λ (b : Bool). not (b && eqb f.place m.place) && spared w m) (sym off)
     ∙ sym (competes f w m)
 
-quiet_best : (f : Flight) (w : Whom) (l : Messages) → f.on ≡ false → best (competing no_flight w) l ≡ best (competing f w) l
+quiet_best : (f : Flight) (w : Option ℕ) (l : Messages) → f.on ≡ false → best (competing no_flight w) l ≡ best (competing f w) l
 unfolding best
 quiet_best f w l off = best_alike (competing no_flight w) (competing f w) (λ m. quiet_test f w m off) _ _
 
 -- ---- the message in flight leaves
 
-pub landed_best : (t : Turn) (a : Bool) (w : Whom) (l : Messages)
+pub landed_best : (t : Turn) (a : Bool) (w : Option ℕ) (l : Messages)
     → best (competing (flight (rested t a).awaited) w) (landing (lands_by t a) l) ≡ best (competing (flight t.awaited) w) l
 unfolding rested lands_by landing pick
 landed_best t false w l = refl
@@ -106,6 +105,6 @@ flight_best d f = go f.on refl (best (HasPlace f.place) d.kept).some refl
 
     go : (b : Bool) → f.on ≡ b → (c : Bool) → (best (HasPlace f.place) d.kept).some ≡ c
         → best (AnyWaiting no_flight) (pick b (pick c more d) d).kept ≡ best (AnyWaiting f) d.kept
-    go true on true e = best_of_kept (AnyWaiting no_flight) (AnyWaiting f) (HasPlace f.place) (λ m. landed_test f Nobody m on) d.kept
-    go true on false e = best_none_gone (AnyWaiting no_flight) (AnyWaiting f) (HasPlace f.place) (λ m. landed_test f Nobody m on) d.kept e
-    go false off c e = quiet_best f Nobody d.kept off
+    go true on true e = best_of_kept (AnyWaiting no_flight) (AnyWaiting f) (HasPlace f.place) (λ m. landed_test f None m on) d.kept
+    go true on false e = best_none_gone (AnyWaiting no_flight) (AnyWaiting f) (HasPlace f.place) (λ m. landed_test f None m on) d.kept e
+    go false off c e = quiet_best f None d.kept off

@@ -22,8 +22,8 @@ ghost use Rattle.station.specs.Deeds.{
   done_by,
 };
 
-use crate::station::{Answer, Counts, Payload, Station, Turn};
-use parts::frame::{Dispatch, Whom};
+use crate::station::{Answer, Counts, Station, Turn};
+use parts::frame::Dispatch;
 use parts::list::{Flight, Message, Messages, Parts, Which};
 use parts::live::Live;
 
@@ -48,7 +48,7 @@ pub struct Deeds {
     pub lands: Flight,
     pub flight: Flight,
     pub blow: Blow,
-    pub stores: Payload,
+    pub stores: Option<Message>,
 }
 
 // What was decided, and whether it changes the turn alone.
@@ -68,7 +68,7 @@ pub struct Verdict {
 pub struct Received {
     pub list: Messages,
     pub lost: u32,
-    pub payload: Payload,
+    pub payload: Option<Message>,
 }
 
 // The turn and the frame to send, and whether nothing else was decided.
@@ -93,7 +93,7 @@ pub fn no_deeds() -> Deeds
             place: 0,
         },
         blow: Blow::Spares,
-        stores: Payload::NoPayload,
+        stores: None,
     }
 }
 
@@ -109,8 +109,8 @@ pub fn untouched(d: Deeds) -> bool
     match blow {
         Blow::Spares => {
             match stores {
-                Payload::NoPayload => true,
-                Payload::Of(_) => false,
+                None => true,
+                Some(_) => false,
             }
         }
         Blow::Another(_) => false,
@@ -137,7 +137,7 @@ pub fn refuse(turn: Turn, number: u32) -> Verdict
     ensures { result ≡ refused turn number }
 {
     let deeds = no_deeds();
-    verdict_of(number, turn, Dispatch::Nothing, deeds)
+    verdict_of(number, turn, None, deeds)
 }
 
 // A turn and the frame to send, and nothing else.
@@ -259,11 +259,11 @@ pub fn live_after(live: Live, blow: Blow) -> Live
     }
 }
 
-pub fn struck_by(live: Live, blow: Blow) -> Whom
+pub fn struck_by(live: Live, blow: Blow) -> Option<u8>
     ensures { result ≡ struck_by live blow }
 {
     match blow {
-        Blow::Spares => Whom::Nobody,
+        Blow::Spares => None,
         Blow::Another(p) => parts::live::newly(live, p),
         Blow::Last(p) => parts::live::newly(live, p),
         Blow::Itself(p) => parts::live::newly(live, p),
@@ -281,27 +281,27 @@ pub fn received_one(l: Messages, lost: u32, m: Message) -> Received
         return Received {
             list: l,
             lost: more,
-            payload: Payload::NoPayload,
+            payload: None,
         };
     }
     let list = parts::list::push(l, m);
     Received {
         list,
         lost,
-        payload: Payload::Of(m),
+        payload: Some(m),
     }
 }
 
-pub fn receive(l: Messages, lost: u32, stores: Payload) -> Received
+pub fn receive(l: Messages, lost: u32, stores: Option<Message>) -> Received
     ensures { result ≡ received l lost stores }
 {
     match stores {
-        Payload::NoPayload => Received {
+        None => Received {
             list: l,
             lost,
-            payload: Payload::NoPayload,
+            payload: None,
         },
-        Payload::Of(m) => received_one(l, lost, m),
+        Some(m) => received_one(l, lost, m),
     }
 }
 
@@ -346,9 +346,9 @@ pub fn turn_alone(s: Station, v: Verdict) -> Answer
         station,
         number: v.number,
         sent,
-        struck: Whom::Nobody,
+        struck: None,
         gone,
-        payload: Payload::NoPayload,
+        payload: None,
     }
 }
 

@@ -2,8 +2,8 @@
 ghost use Rattle.std.specs.Prelude.{◌≡◌};
 ghost use Rattle.station.specs.Take.{best_on, taking, take_rule};
 
-use crate::station::{Answer, Payload, Station};
-use parts::frame::{Dispatch, Whom};
+use crate::station::{Answer, Station};
+use parts::frame::Dispatch;
 use parts::list::{Best, Message, Which};
 use parts::moves::Event;
 
@@ -24,10 +24,10 @@ pub fn taking(s: Station, m: Message) -> Answer
     Answer {
         station,
         number: 0,
-        sent: Dispatch::Nothing,
-        struck: Whom::Nobody,
+        sent: None,
+        struck: None,
         gone,
-        payload: Payload::Of(m),
+        payload: Some(m),
     }
 }
 

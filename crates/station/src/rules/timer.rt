@@ -4,7 +4,7 @@ ghost use Rattle.station.specs.Decide.{strikes_out, going_on, last_timer, decide
 ghost use Rattle.station.specs.Timer.{timer_rule};
 
 use crate::rules::deeds::{Blow, Deeds, Verdict};
-use crate::station::{Answer, Payload, Station, Turn};
+use crate::station::{Answer, Station, Turn};
 use parts::frame::{Dispatch, Frame};
 use parts::list::Flight;
 use parts::moves::{Event, State};
@@ -23,7 +23,7 @@ pub fn strikes_out(s: Station, to: u8, turn: Turn, sent: Dispatch) -> Verdict
         },
         flight,
         blow: Blow::Last(to),
-        stores: Payload::NoPayload,
+        stores: None,
     };
     crate::rules::deeds::verdict_of(0, turn, sent, deeds)
 }
@@ -43,7 +43,7 @@ pub fn last_timer(s: Station, to: u8, f: Frame) -> Verdict
     let v = crate::rules::sight::look_without(s, to);
     if v.next == s.own {
         let turn = crate::station::resting(s.turn, State::Alone);
-        return strikes_out(s, to, turn, Dispatch::Nothing);
+        return strikes_out(s, to, turn, None);
     }
     let d = sent::resend::resend(v, to, f);
     going_on(s, to, d)
@@ -75,8 +75,8 @@ impl Station {
         }
         let awaited = turn.awaited;
         match awaited {
-            Dispatch::Nothing => crate::rules::deeds::refuse(turn, 0),
-            Dispatch::Sent { frame, to } => silence(self, to, frame),
+            None => crate::rules::deeds::refuse(turn, 0),
+            Some((frame, to)) => silence(self, to, frame),
         }
     }
 

@@ -9,7 +9,7 @@ use Rattle.parts.specs.Choose.{every}
 use Rattle.parts.specs.Moves.{move_of, runs, is_waiting, is_excluded}
 use Rattle.parts.specs.Messages.{all, flies, best}
 use Rattle.parts.specs.Live.{live_at}
-use Rattle.parts.specs.Frames.{no_flight, flight}
+use Rattle.parts.specs.Frames.{no_flight, flight, Dispatch}
 use Rattle.station.specs.Stations.{state_of, awaited_of, alone, quiet, sending_turn, sending}
 use Rattle.wholeness.specs.Whole.{ring_good, own_seat, other_seat, company_good, list_good, waits_well, waiters_good, same_message, carried, awaited_good, turn_fits}
 use Rattle.parts.specs.declared.moves.State.{State}
@@ -21,9 +21,7 @@ use Rattle.parts.specs.declared.list.Messages.{Messages}
 use Rattle.parts.specs.declared.list.Flight.{Flight}
 use Rattle.parts.specs.declared.list.Which.TheVariants.{HasPlace}
 use Rattle.parts.specs.declared.frame.Frame.TheVariants.{Token, Transmit, Information}
-use Rattle.parts.specs.declared.frame.Dispatch.{Dispatch}
-use Rattle.parts.specs.declared.frame.Dispatch.TheVariants.{Nothing, Sent}
-use Rattle.station.specs.declared.station.Handled.{Handled}
+use Rattle.std.specs.Prelude.{Option, None, Some}
 use Rattle.station.specs.declared.station.Station.{Station}
 use Rattle.parts.proofs.Laws.Choose.{pick_false}
 use Rattle.station_theorems.specs.Whole.{Ring}
@@ -82,16 +80,16 @@ pub record Based (f : Flight) (s : Station) : Type 0 where
 pub in_flight_lem : (st : State) (n own : ℕ) (l : Messages) (d : Dispatch) → awaited_good st n own l d ≡ true → (flight d).on ≡ true
     → (best (HasPlace (flight d).place) l).some ≡ true
 unfolding awaited_good carried same_message
-in_flight_lem st n own l Nothing e on = absurd (false≢true on)
-in_flight_lem st n own l (Sent (Token t) to) e on = absurd (false≢true on)
-in_flight_lem st n own l (Sent (Transmit t) to) e on = absurd (false≢true on)
-in_flight_lem st n own l (Sent (Information i) to) e on = (held _ (held _ e).1.1.1.1.0).0
+in_flight_lem st n own l None e on = absurd (false≢true on)
+in_flight_lem st n own l (Some (Token t, to)) e on = absurd (false≢true on)
+in_flight_lem st n own l (Some (Transmit t, to)) e on = absurd (false≢true on)
+in_flight_lem st n own l (Some (Information i, to)) e on = (held _ (held _ e).1.1.1.1.0).0
 
 -- no frame is awaited but when Waiting
 pub idle_flight : (st : State) (n own : ℕ) (l : Messages) (d : Dispatch) → is_waiting st ≡ false → awaited_good st n own l d ≡ true → flight d ≡ no_flight
 unfolding awaited_good
-idle_flight st n own l Nothing w e = refl
-idle_flight st n own l (Sent f to) w e = absurd (false≢true (sym w ∙ (held _ e).0))
+idle_flight st n own l None w e = refl
+idle_flight st n own l (Some (f, to)) w e = absurd (false≢true (sym w ∙ (held _ e).0))
 
 each_waits : (st : State) (l : Live) (f : Flight) (ms : List Message) → is_excluded st ≡ false → waiters_good st l f ms ≡ true → every (waits_well l f) ms ≡ true
 unfolding waiters_good
@@ -181,7 +179,7 @@ module _ (s : Station) (b : Based no_flight s) where
       go true = refl
       go false = e
 
-  pub sends_off : (h : Handled) (d : Dispatch) → alone s ≡ false → awaited_good Waiting s.n s.own s.sends d ≡ true → Sound (sending s h d)
+  pub sends_off : (h : Option ℕ) (d : Dispatch) → alone s ≡ false → awaited_good Waiting s.n s.own s.sends d ≡ true → Sound (sending s h d)
   unfolding own_seat other_seat company_good waiters_good
   sends_off h d a g =
       record {

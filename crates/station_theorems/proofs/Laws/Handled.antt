@@ -23,7 +23,7 @@ use Rattle.parts.specs.declared.frame.InformationFrame.{InformationFrame}
 use Rattle.parts.specs.declared.frame.Frame.{Frame}
 use Rattle.parts.specs.declared.frame.Frame.TheVariants.{Token, Transmit, Information}
 use Rattle.station.specs.declared.station.Station.{Station}
-use Rattle.station.specs.declared.station.Payload.TheVariants.{NoPayload, Of}
+use Rattle.std.specs.Prelude.{None, Some}
 use Rattle.station_theorems.proofs.Laws.Places.{lowest_free_free, lowest_free_room}
 use Rattle.parts.proofs.Laws.Tests.{hold}
 use Rattle.station_theorems.proofs.Laws.Kept.{list_pushed, push_length}
@@ -111,8 +111,8 @@ module _ (s : Station) (b : Based no_flight s) (a : alone s ≡ false) (from : �
       go : (t : Bool) → leb 16 s.receives.len ≡ t
           → Ready s
           (pick {A = Stored} t
-          (record { station = with_lost s (add_up_to s.counts.lost 1); payload = NoPayload })
-          (record { station = with_receives s (pushed s.receives m); payload = Of m })
+          (record { station = with_lost s (add_up_to s.counts.lost 1); payload = None })
+          (record { station = with_receives s (pushed s.receives m); payload = Some m })
           ).station
       go true t = lost_one _
       go false t =

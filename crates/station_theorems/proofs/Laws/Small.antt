@@ -18,8 +18,7 @@ use Rattle.parts.specs.declared.list.Message.{Message}
 use Rattle.parts.specs.declared.list.Messages.{Messages}
 use Rattle.parts.specs.declared.list.Which.{Which}
 use Rattle.parts.specs.declared.list.Best.{Best}
-use Rattle.parts.specs.declared.frame.Whom.{Whom}
-use Rattle.parts.specs.declared.frame.Whom.TheVariants.{Nobody}
+use Rattle.std.specs.Prelude.{Option, None}
 use Rattle.parts.specs.declared.frame.TokenFrame.{TokenFrame}
 use Rattle.parts.specs.declared.frame.Frame.{Frame}
 use Rattle.parts.specs.declared.frame.Frame.TheVariants.{Token, Transmit, Information}
@@ -102,7 +101,7 @@ module _ (v : Sight) (h : SmallBest v.head) (k : ℕ) (small : k < 65536) where
   pub own_small : priority_of v.head < 256
   own_small = pick_keeps (λ (x : ℕ). x < 256) v.head.some _ 0 h (omega arith)
 
-  pub start_small : (w : Whom) → SmallDispatch (start_round v k w)
+  pub start_small : (w : Option ℕ) → SmallDispatch (start_round v k w)
   unfolding start_round
   start_small w = record { number = small; priority = own_small }
 
@@ -119,7 +118,7 @@ module _ (v : Sight) (h : SmallBest v.head) (k : ℕ) (small : k < 65536) where
   returned_small priority named p =
       go (eqb priority 0) (eqb named v.own)
     where
-      go : (a b : Bool) → SmallDispatch (first_of (grant v k priority named) ((a, start_round v k Nobody) ∷ (b, send_head v k) ∷ []))
+      go : (a b : Bool) → SmallDispatch (first_of (grant v k priority named) ((a, start_round v k None) ∷ (b, send_head v k) ∷ []))
       go true b = start_small _
       go false true = send_small
       go false false = grant_small priority named p

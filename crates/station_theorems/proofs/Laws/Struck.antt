@@ -11,7 +11,7 @@ use Rattle.parts.specs.Choose.{pick, every}
 use Rattle.parts.specs.Moves.{move_of, runs, is_excluded}
 use Rattle.parts.specs.Messages.{all, flies, fits, only, pack, split_by, best, best_of, no_best}
 use Rattle.parts.specs.Live.{live_at, without}
-use Rattle.parts.specs.Frames.{no_flight, flight}
+use Rattle.parts.specs.Frames.{no_flight, flight, Dispatch}
 use Rattle.station.specs.Stations.{state_of, awaited_of, alone, counted}
 use Rattle.station.specs.Strike.{Loss, strike, give_up_to, leave, give_up_at, give_up_flight}
 use Rattle.wholeness.specs.Whole.{own_seat, other_seat, company_good, list_good, waits_well, waiters_good, same_message, carried, awaited_good}
@@ -24,8 +24,7 @@ use Rattle.parts.specs.declared.list.Flight.{Flight}
 use Rattle.parts.specs.declared.list.Best.{Best}
 use Rattle.parts.specs.declared.list.Which.TheVariants.{WaitingFor, HasPlace}
 use Rattle.parts.specs.declared.frame.Frame.TheVariants.{Token, Transmit, Information}
-use Rattle.parts.specs.declared.frame.Dispatch.{Dispatch}
-use Rattle.parts.specs.declared.frame.Dispatch.TheVariants.{Nothing, Sent}
+use Rattle.std.specs.Prelude.{None, Some}
 use Rattle.station.specs.declared.station.Station.{Station}
 use Rattle.parts.proofs.Laws.Choose.{pick_true, pick_false}
 use Rattle.parts.proofs.Laws.Messages.{only_length}
@@ -52,10 +51,10 @@ module _ (l : Messages) (g : Message → Bool) where
   pub awaited_kept : (st : State) (n own : ℕ) (d : Dispatch) → ((m : Message) → flies (flight d) m ≡ true → g m ≡ true)
       → awaited_good st n own l d ≡ true → awaited_good st n own (pack (only g (all l))) d ≡ true
   unfolding awaited_good carried
-  awaited_kept st n own Nothing w e = e
-  awaited_kept st n own (Sent (Token t) to) w e = e
-  awaited_kept st n own (Sent (Transmit t) to) w e = e
-  awaited_kept st n own (Sent (Information i) to) w e =
+  awaited_kept st n own None w e = e
+  awaited_kept st n own (Some (Token t, to)) w e = e
+  awaited_kept st n own (Some (Transmit t, to)) w e = e
+  awaited_kept st n own (Some (Information i, to)) w e =
       let t = held _ e in
       hold _ (
         t.0,

@@ -16,8 +16,7 @@ use Rattle.parts.specs.Live.{newly}
 use Rattle.parts.specs.declared.live.Live.{Live}
 use Rattle.parts.specs.declared.list.Message.{Message}
 use Rattle.parts.specs.declared.list.Messages.{Messages}
-use Rattle.parts.specs.declared.frame.Whom.{Whom}
-use Rattle.parts.specs.declared.frame.Whom.TheVariants.{Nobody, Member}
+use Rattle.std.specs.Prelude.{Option, None, Some}
 use Rattle.station.specs.declared.station.Station.{Station}
 use Rattle.parts.proofs.Laws.Choose.{pick_true, pick_false}
 
@@ -49,11 +48,11 @@ struck_not_live l p = set_then l.on p
 
 -- ---- who is newly struck
 
-pub newly_live : (l : Live) (p : ℕ) → live_at l p ≡ true → newly l p ≡ Member p
+pub newly_live : (l : Live) (p : ℕ) → live_at l p ≡ true → newly l p ≡ Some p
 unfolding newly
 newly_live l p e = pick_true _ _ e
 
-pub newly_not : (l : Live) (p : ℕ) → live_at l p ≡ false → newly l p ≡ Nobody
+pub newly_not : (l : Live) (p : ℕ) → live_at l p ≡ false → newly l p ≡ None
 unfolding newly
 newly_not l p e = pick_false _ _ e
 
@@ -136,16 +135,16 @@ counts_stop c k h i =
 -- ---- what a call that strikes a station, or nobody, leaves and tells, from s to t
 
 -- the live set without the struck station
-abbrev pub left : Live → Whom → Live
-left l Nobody = l
-left l (Member p) = without l p
+abbrev pub left : Live → Option ℕ → Live
+left l None = l
+left l (Some p) = without l p
 
 -- who is told: the struck station, if it was live
-abbrev pub newly_of : Live → Whom → Whom
-newly_of l Nobody = Nobody
-newly_of l (Member p) = newly l p
+abbrev pub newly_of : Live → Option ℕ → Option ℕ
+newly_of l None = None
+newly_of l (Some p) = newly l p
 
-pub record Tells (s t : Station) (w : Whom) (gone : Messages) (struck : Whom) : Type 0 where
+pub record Tells (s t : Station) (w : Option ℕ) (gone : Messages) (struck : Option ℕ) : Type 0 where
   pub live_left : t.live ≡ left s.live struck
   pub told_is : w ≡ newly_of s.live struck
   pub counted_up : t.counts.givenup ≡ add_up_to s.counts.givenup gone.len
@@ -156,12 +155,12 @@ pub record Same (s t : Station) : Type 0 where
   pub live_same : t.live ≡ s.live
   pub count_same : t.counts.givenup ≡ s.counts.givenup
 
-pub tells_none : (s t : Station) → Same s t → Tells s t Nobody none Nobody
+pub tells_none : (s t : Station) → Same s t → Tells s t None none None
 tells_none s t e =
     record { live_left = e.live_same; told_is = refl; counted_up = e.count_same ∙ sym (none_more s.counts.givenup); listed = roomy_none }
 
 -- steps before and after that touch neither the live set nor the count
-pub tells_through : (s t u v : Station) (w : Whom) (gone : Messages) (struck : Whom) → Same s t → Tells t u w gone struck → Same u v → Tells s v w gone struck
+pub tells_through : (s t u v : Station) (w : Option ℕ) (gone : Messages) (struck : Option ℕ) → Same s t → Tells t u w gone struck → Same u v → Tells s v w gone struck
 tells_through s t u v w gone struck before k after =
     record {
       live_left = after.live_same ∙ k.live_left ∙ ap (λ (l : Live). left l struck) before.live_same;
@@ -198,7 +197,7 @@ lost_flight s p l h =
     }
 
 -- the messages given up are counted and told
-pub tells_told : (s : Station) (l : Loss) (p : ℕ) → Lost s p l → Tells s (told l (newly s.live p)).station (newly s.live p) l.gone (Member p)
+pub tells_told : (s : Station) (l : Loss) (p : ℕ) → Lost s p l → Tells s (told l (newly s.live p)).station (newly s.live p) l.gone (Some p)
 tells_told s l p h =
     record {
       live_left = h.live_lost;
@@ -209,41 +208,41 @@ tells_told s l p h =
 
 -- with the message in flight given up too
 pub tells_flight : (s : Station) (l : Loss) (p : ℕ) → Lost s p l
-    → Tells s (told (give_up_flight l) (newly s.live p)).station (newly s.live p) (give_up_flight l).gone (Member p)
+    → Tells s (told (give_up_flight l) (newly s.live p)).station (newly s.live p) (give_up_flight l).gone (Some p)
 tells_flight s l p h = tells_told s (give_up_flight l) p (lost_flight s p l h)
 
 -- ---- who is told was struck, and was live
 
-member_of : Whom → ℕ
-member_of Nobody = 0
-member_of (Member p) = p
+member_of : Option ℕ → ℕ
+member_of None = 0
+member_of (Some p) = p
 
-someone : Whom → Bool
-someone Nobody = false
-someone (Member p) = true
+someone : Option ℕ → Bool
+someone None = false
+someone (Some p) = true
 
-pub nobody_no_member : (p : ℕ) → Nobody ≡ Member p → ⊥
+pub nobody_no_member : (p : ℕ) → None ≡ Some p → ⊥
 unfolding someone
 nobody_no_member p e = mathlib.Core.Bool.false≢true (ap someone e)
 
-pub same_member : (p q : ℕ) → Member p ≡ Member q → p ≡ q
+pub same_member : (p q : ℕ) → Some p ≡ Some q → p ≡ q
 unfolding member_of
 same_member p q e = ap member_of e
 
-pub told_struck : (l : Live) (w : Whom) (p : ℕ) → newly_of l w ≡ Member p → (w ≡ Member p) × (live_at l p ≡ true)
-told_struck l Nobody p e = absurd (nobody_no_member p e)
-told_struck l (Member q) p e = go (live_at l q) refl
+pub told_struck : (l : Live) (w : Option ℕ) (p : ℕ) → newly_of l w ≡ Some p → (w ≡ Some p) × (live_at l p ≡ true)
+told_struck l None p e = absurd (nobody_no_member p e)
+told_struck l (Some q) p e = go (live_at l q) refl
   where
-    go : (b : Bool) → live_at l q ≡ b → (Member q ≡ Member p) × (live_at l p ≡ true)
+    go : (b : Bool) → live_at l q ≡ b → (Some q ≡ Some p) × (live_at l p ≡ true)
     go true h =
-        let same : Member q ≡ Member p = sym (newly_live l q h) ∙ e in
+        let same : Some q ≡ Some p = sym (newly_live l q h) ∙ e in
         (same, ap (live_at l) (sym (same_member q p same)) ∙ h)
     go false h = absurd (nobody_no_member p (sym (newly_not l q h) ∙ e))
 
 -- where nobody is told, the live set stays
-pub nobody_left : (l : Live) (w : Whom) → newly_of l w ≡ Nobody → left l w ≡ l
-nobody_left l Nobody e = refl
-nobody_left l (Member p) e = go (live_at l p) refl
+pub nobody_left : (l : Live) (w : Option ℕ) → newly_of l w ≡ None → left l w ≡ l
+nobody_left l None e = refl
+nobody_left l (Some p) e = go (live_at l p) refl
   where
     go : (b : Bool) → live_at l p ≡ b → without l p ≡ l
     go true h = absurd (nobody_no_member p (sym e ∙ newly_live l p h))

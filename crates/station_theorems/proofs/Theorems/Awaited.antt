@@ -8,20 +8,17 @@ use native.Mathlib.Omega.{arith}
 use borrow.Author.Tests.{ltb-true, ltb-false, leb-true, leb-false, eqb-true, eqb-false, not-true, lt-ltb, le-ltb, le-leb, lt-leb, eq-eqb, ne_eqb}
 use Rattle.parts.specs.Moves.{is_waiting}
 use Rattle.parts.specs.Messages.{all, fits, best, best_of, no_best, the_best}
-use Rattle.parts.specs.Frames.{member_or_nobody, fit}
+use Rattle.parts.specs.Frames.{member_or_nobody, fit, Dispatch}
 use Rattle.wholeness.specs.Whole.{apart, same_message, carried, awaited_good}
 use Rattle.parts.specs.declared.moves.State.{State}
 use Rattle.parts.specs.declared.list.Message.{Message}
 use Rattle.parts.specs.declared.list.Messages.{Messages}
 use Rattle.parts.specs.declared.list.Best.{Best}
 use Rattle.parts.specs.declared.list.Which.TheVariants.{HasPlace}
-use Rattle.parts.specs.declared.frame.Whom.{Whom}
-use Rattle.parts.specs.declared.frame.Whom.TheVariants.{Nobody, Member}
+use Rattle.std.specs.Prelude.{Option, None, Some}
 use Rattle.parts.specs.declared.frame.InformationFrame.{InformationFrame}
 use Rattle.parts.specs.declared.frame.Frame.{Frame}
 use Rattle.parts.specs.declared.frame.Frame.TheVariants.{Token, Transmit, Information}
-use Rattle.parts.specs.declared.frame.Dispatch.{Dispatch}
-use Rattle.parts.specs.declared.frame.Dispatch.TheVariants.{Nothing, Sent}
 use Rattle.station_theorems.specs.Awaited.{Fit, Carrying, Proper, Awaited}
 use Rattle.station_theorems.proofs.Laws.States.{waiting_is}
 use Rattle.parts.proofs.Laws.Tests.{held, hold}
@@ -32,13 +29,13 @@ use Rattle.station_theorems.proofs.Theorems.Head.{best_is_first}
 
 -- ---- fit to write: members, and fields in range
 
-failing_fits : (n : ℕ) (w : Whom) → member_or_nobody n w ≡ true → (p : ℕ) → w ≡ Member p → p < n
-failing_fits n Nobody e p q = absurd (let z : ◌≡◌ {A = ℕ} 0 1 = cc in omega arith)
-failing_fits n (Member r) e p q = let same : r ≡ p = cc in let h : r < n = ltb-true r n e in omega arith
+failing_fits : (n : ℕ) (w : Option ℕ) → member_or_nobody n w ≡ true → (p : ℕ) → w ≡ Some p → p < n
+failing_fits n None e p q = absurd (let z : ◌≡◌ {A = ℕ} 0 1 = cc in omega arith)
+failing_fits n (Some r) e p q = let same : r ≡ p = cc in let h : r < n = ltb-true r n e in omega arith
 
-fits_failing : (n : ℕ) (w : Whom) → ((p : ℕ) → w ≡ Member p → p < n) → member_or_nobody n w ≡ true
-fits_failing n Nobody k = refl
-fits_failing n (Member r) k = lt-ltb r n (k r refl)
+fits_failing : (n : ℕ) (w : Option ℕ) → ((p : ℕ) → w ≡ Some p → p < n) → member_or_nobody n w ≡ true
+fits_failing n None k = refl
+fits_failing n (Some r) k = lt-ltb r n (k r refl)
 
 pub fit_is : (n : ℕ) (f : Frame) → fit n f ≡ true → Fit n f
 fit_is n (Token t) e =
@@ -102,13 +99,13 @@ is_carried l a (Information i) to k =
 
 pub awaited_is : (st : State) (n own : ℕ) (l : Messages) (d : Dispatch) → awaited_good st n own l d ≡ true → Awaited st n own l d
 unfolding awaited_good
-awaited_is st n own l Nothing e =
+awaited_is st n own l None e =
     record {
       one_when_waiting = λ q. absurd (false≢true (sym (not-true _ e) ∙ ap is_waiting q));
       none_otherwise = λ q. refl;
       each_proper = λ f to q. absurd (let z : ◌≡◌ {A = ℕ} 0 1 = cc in omega arith);
     }
-awaited_is st n own l (Sent f to) e =
+awaited_is st n own l (Some (f, to)) e =
     let t = held _ e in
     let p : Proper n own l f to =
     record {
@@ -128,20 +125,20 @@ awaited_is st n own l (Sent f to) e =
 
 pub is_awaited : (st : State) (n own : ℕ) (l : Messages) → apart [] (all l) ≡ true → (d : Dispatch) → Awaited st n own l d → awaited_good st n own l d ≡ true
 unfolding awaited_good
-is_awaited st n own l a Nothing k = go (is_waiting st) refl
+is_awaited st n own l a None k = go (is_waiting st) refl
   where
     go : (b : Bool) → is_waiting st ≡ b → not (is_waiting st) ≡ true
-    go true e = let r = k.one_when_waiting (waiting_is st e) in let q : Nothing ≡ Sent r.0 r.1 = r.2 in absurd (let z : ◌≡◌ {A = ℕ} 0 1 = cc in omega arith)
+    go true e = let r = k.one_when_waiting (waiting_is st e) in let q : None ≡ Some (r.0, r.1) = r.2 in absurd (let z : ◌≡◌ {A = ℕ} 0 1 = cc in omega arith)
     go false e = ap not e
-is_awaited st n own l a (Sent f to) k = go (is_waiting st) refl
+is_awaited st n own l a (Some (f, to)) k = go (is_waiting st) refl
   where
     p : Proper n own l f to
     p = k.each_proper f to refl
 
-    go : (b : Bool) → is_waiting st ≡ b → awaited_good st n own l (Sent f to) ≡ true
+    go : (b : Bool) → is_waiting st ≡ b → awaited_good st n own l (Some (f, to)) ≡ true
     go true e =
         hold _
         (e, (is_fit n f p.fits_to_write, (lt-ltb to n p.member, (ap not (ne_eqb to own p.another), (is_carried l a f to p.carries, tt)))))
     go false e =
-        let q : Sent f to ≡ Nothing = k.none_otherwise (λ w. false≢true (sym e ∙ ap is_waiting w)) in
+        let q : Some (f, to) ≡ None = k.none_otherwise (λ w. false≢true (sym e ∙ ap is_waiting w)) in
         absurd (let z : ◌≡◌ {A = ℕ} 0 1 = cc in omega arith)

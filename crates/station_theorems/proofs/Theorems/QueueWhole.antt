@@ -22,8 +22,8 @@ use Rattle.parts.specs.declared.list.Which.TheVariants.{HasPlace}
 use Rattle.parts.specs.declared.request.Request.{Request}
 use Rattle.parts.specs.declared.frame.Frame.{Frame}
 use Rattle.parts.specs.declared.frame.Frame.TheVariants.{Token, Transmit, Information}
-use Rattle.parts.specs.declared.frame.Dispatch.{Dispatch}
-use Rattle.parts.specs.declared.frame.Dispatch.TheVariants.{Nothing, Sent}
+use Rattle.parts.specs.Frames.{Dispatch}
+use Rattle.std.specs.Prelude.{None, Some}
 use Rattle.station.specs.declared.station.Station.{Station}
 use Rattle.parts.proofs.Laws.Choose.{pick_true, pick_false}
 use Rattle.station_theorems.specs.Shaped.{WholeStation}
@@ -61,8 +61,8 @@ module _ (l : Messages) (m : Message) (full : length l.items ≡ 16) (room : l.l
 
   awaited_pushed : (st : State) (n own : ℕ) (d : Dispatch) → awaited_good st n own l d ≡ true → awaited_good st n own (pushed l m) d ≡ true
   unfolding awaited_good
-  awaited_pushed st n own Nothing e = e
-  awaited_pushed st n own (Sent f to) e =
+  awaited_pushed st n own None e = e
+  awaited_pushed st n own (Some (f, to)) e =
       let t = held _ e in
       hold _ (t.0, (t.1.0, (t.1.1.0, (t.1.1.1.0, (carried_pushed f to t.1.1.1.1.0, tt)))))
 

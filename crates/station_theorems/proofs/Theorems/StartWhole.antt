@@ -16,7 +16,7 @@ use Rattle.station.specs.Start.{sent_first, started, start_rule}
 use Rattle.wholeness.specs.Whole.{own_seat, other_seat}
 use Rattle.parts.specs.declared.moves.State.TheVariants.{Offline, Idle}
 use Rattle.parts.specs.declared.live.Live.{Live}
-use Rattle.parts.specs.declared.frame.Whom.TheVariants.{Nobody}
+use Rattle.std.specs.Prelude.{None}
 use Rattle.station.specs.declared.station.Station.{Station}
 use Rattle.station_theorems.specs.Whole.{Ring}
 use Rattle.station_theorems.specs.Shaped.{WholeStation}
@@ -59,8 +59,8 @@ module _ (s : Station) (k : Sound s) (off : state_of s ≡ Offline) where
   unfolding started pick
   started_sound = go (eqb s.own 0)
     where
-      go : (b : Bool) → Sound (pick b (sent_first s (start_round (sight s) 0 Nobody)) (answered (quiet s Idle) 0)).station
-      go true = sends_off s based _ _ others (round_proper s ring.member k.sends others 0 Nobody refl)
+      go : (b : Bool) → Sound (pick b (sent_first s (start_round (sight s) 0 None)) (answered (quiet s Idle) 0)).station
+      go true = sends_off s based _ _ others (round_proper s ring.member k.sends others 0 None refl)
       go false = quiet_idle s based others
 
 start_sound : (s : Station) → Sound s → Sound (start_rule s).station

@@ -4,7 +4,7 @@ use mathlib.Core.Path.{◌≡◌}
 use Prim.Native.Nat.{ℕ, ◌+◌, ◌*◌, ◌-◌, ◌<◌, ◌≤◌}
 use native.Mathlib.Omega.{arith}
 use Rattle.sent.specs.Round.{priority_of, information_of}
-use Rattle.parts.specs.Frames.{flight_in, no_flight}
+use Rattle.parts.specs.Frames.{flight_in, no_flight, Dispatch}
 use Rattle.parts.specs.Messages.{the_best}
 use Rattle.parts.specs.declared.list.Best.{Best}
 use Rattle.parts.specs.declared.list.Message.{Message}
@@ -13,8 +13,7 @@ use Rattle.parts.specs.declared.frame.TransmitFrame.{TransmitFrame}
 use Rattle.parts.specs.declared.frame.InformationFrame.{InformationFrame}
 use Rattle.parts.specs.declared.frame.Frame.{Frame}
 use Rattle.parts.specs.declared.frame.Frame.TheVariants.{Token, Transmit, Information}
-use Rattle.parts.specs.declared.frame.Dispatch.{Dispatch}
-use Rattle.parts.specs.declared.frame.Dispatch.TheVariants.{Sent}
+use Rattle.std.specs.Prelude.{Some}
 use Rattle.bench.specs.Rows.{kind_of}
 use Rattle.bench_theorems.specs.Quiet.{offset, Phase, token, transmit, information}
 use Rattle.waiting.specs.Waiting.{is_short, is_information}
@@ -63,6 +62,6 @@ some_ahead {n} {from} s priority (information i) =
 -- the station at p composes d: the message's own frame; or another, which lowers the rank by that frame
 pub data Turns (n s : ℕ) (m : Message) (p short information : ℕ) (d : Dispatch) : Type 0 where
   its_own : (number : ℕ) → p ≡ s → d ≡ information_of number m → Turns n s m p short information d
-  another : (f : Frame) (onward : ℕ) → d ≡ Sent f onward → (p ≡ s → flight_in f ≡ no_flight) → (short' information' : ℕ)
+  another : (f : Frame) (onward : ℕ) → d ≡ Some (f, onward) → (p ≡ s → flight_in f ≡ no_flight) → (short' information' : ℕ)
       → Ahead n s m.priority p f short' information' → is_short (kind_of f) + short' ≤ short → is_information (kind_of f) + information' ≤ information
       → Turns n s m p short information d

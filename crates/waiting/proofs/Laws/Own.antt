@@ -10,7 +10,7 @@ use Rattle.sent.specs.Round.{information_of}
 use Rattle.parts.specs.declared.list.Flight.{Flight}
 use Rattle.parts.specs.declared.list.Message.{Message}
 use Rattle.parts.specs.declared.frame.Frame.{Frame}
-use Rattle.parts.specs.declared.frame.Dispatch.TheVariants.{Sent}
+use Rattle.std.specs.Prelude.{Some}
 use Rattle.parts.proofs.Laws.Choose.{pick_true, pick_false}
 use Rattle.bench.specs.Delivery.{step}
 use Rattle.bench.specs.Rows.{rows_on}
@@ -25,7 +25,7 @@ unfolding own
 own_sent x m number e = rw (eq-eqb x.station x.station refl, eq-eqb m.place x.place e)
 
 -- a frame from another station, or one that is not information, is not its own
-pub own_not : (x : Spot) (p : ℕ) (f : Frame) (to : ℕ) → (p ≡ x.station → flight_in f ≡ no_flight) → own x (record { from = p; sent = Sent f to }) ≡ false
+pub own_not : (x : Spot) (p : ℕ) (f : Frame) (to : ℕ) → (p ≡ x.station → flight_in f ≡ no_flight) → own x (record { from = p; sent = Some (f, to) }) ≡ false
 unfolding own
 own_not x p f to w = go (eqb p x.station) refl
   where

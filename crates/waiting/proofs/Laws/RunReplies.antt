@@ -8,12 +8,11 @@ use Rattle.parts.specs.Live.{after}
 use Rattle.parts.specs.Frames.{next}
 use Rattle.sent.specs.Round.{priority_of, opening, granting, passing, start_round, information_of, send_head, grant, returned, bid_of, own_bid, cleared, raised, forward, pass_on, on_token, reply}
 use Rattle.parts.specs.declared.list.Best.{Best}
-use Rattle.parts.specs.declared.frame.Whom.TheVariants.{Nobody}
+use Rattle.std.specs.Prelude.{None, Some}
 use Rattle.parts.specs.declared.frame.TokenFrame.{TokenFrame}
 use Rattle.parts.specs.declared.frame.TransmitFrame.{TransmitFrame}
 use Rattle.parts.specs.declared.frame.InformationFrame.{InformationFrame}
 use Rattle.parts.specs.declared.frame.Frame.TheVariants.{Token, Transmit, Information}
-use Rattle.parts.specs.declared.frame.Dispatch.TheVariants.{Sent}
 use Rattle.sent.specs.declared.round.Bid.{Bid}
 use Rattle.parts.proofs.Laws.Choose.{pick_true, pick_false}
 use Rattle.bench_theorems.proofs.Laws.FullSet.{full_live}
@@ -29,7 +28,7 @@ numbered t k = bidding t k (bid_of t)
 module _ (n : ℕ) (most : n ≤ 64) (p : ℕ) (h : Best) (t : TokenFrame) (master : t.master < n) (name : t.named < n) where
   -- ---- a token on its way
   module _ (other : t.master ≡ p → ⊥) where
-    on_way : (b : Bid) → raised (view n p h) (bid_of t) ≡ b → reply (view n p h) (Token t) ≡ Sent (Token (bidding t (next t.number) b)) (after n p)
+    on_way : (b : Bid) → raised (view n p h) (bid_of t) ≡ b → reply (view n p h) (Token t) ≡ Some (Token (bidding t (next t.number) b), after n p)
     unfolding reply on_token pass_on cleared
     on_way b e =
         pick_false _ _ (ne_eqb t.master p other)
@@ -39,19 +38,19 @@ module _ (n : ℕ) (most : n ≤ 64) (p : ℕ) (h : Best) (t : TokenFrame) (mast
         ∙ ap (forward (view n p h) (next t.number) t t.failing) e
 
     -- nothing higher waits: it goes on as it is
-    pub passes_on : priority_of h ≤ t.priority → reply (view n p h) (Token t) ≡ Sent (Token (numbered t (next t.number))) (after n p)
+    pub passes_on : priority_of h ≤ t.priority → reply (view n p h) (Token t) ≡ Some (Token (numbered t (next t.number)), after n p)
     unfolding raised
     passes_on low = on_way (bid_of t) (pick_false _ _ (le-ltb t.priority (priority_of h) low))
 
     -- something higher does: priority and name are replaced
     pub replaces : t.priority < priority_of h
-        → reply (view n p h) (Token t) ≡ Sent (Token (bidding t (next t.number) (record { priority = priority_of h; named = p }))) (after n p)
+        → reply (view n p h) (Token t) ≡ Some (Token (bidding t (next t.number) (record { priority = priority_of h; named = p })), after n p)
     unfolding raised
     replaces high = on_way (record { priority = priority_of h; named = p }) (pick_true _ _ (lt-ltb t.priority (priority_of h) high))
 
   -- ---- back at its master, another station being named
   pub grants : t.master ≡ p → (t.priority ≡ 0 → ⊥) → (t.named ≡ p → ⊥)
-      → reply (view n p h) (Token t) ≡ Sent (Transmit (granting (next t.number) t.priority p t.named)) t.named
+      → reply (view n p h) (Token t) ≡ Some (Transmit (granting (next t.number) t.priority p t.named), t.named)
   unfolding reply on_token returned grant
   grants back some other =
       pick_true _ _ (eq-eqb t.master p back)
@@ -66,6 +65,6 @@ sends_head n p h t e = pick_true _ _ e
 
 -- information: a round starts
 pub starts_round : (n p : ℕ) (h : Best) (i : InformationFrame)
-    → reply (view n p h) (Information i) ≡ Sent (Token (opening p (priority_of h) (next i.number) Nobody)) (after n p)
+    → reply (view n p h) (Information i) ≡ Some (Token (opening p (priority_of h) (next i.number) None), after n p)
 unfolding reply start_round
 starts_round n p h i = refl

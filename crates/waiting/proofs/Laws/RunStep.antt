@@ -2,14 +2,13 @@
 use mathlib.Core.Path.{◌≡◌, refl, sym, ap, subst, ◌∙◌}
 use Prim.Native.Nat.{ℕ, ◌<◌}
 use Rattle.parts.specs.Messages.{all}
-use Rattle.parts.specs.Frames.{number_of, flight, no_flight}
+use Rattle.parts.specs.Frames.{number_of, flight, no_flight, Dispatch}
 use Rattle.station.specs.Stations.{awaited_of}
 use Rattle.station.specs.Sight.{sight}
 use Rattle.sent.specs.Round.{reply}
 use Rattle.station.specs.Heard.{acknowledge, stored, frame_rule}
 use Rattle.parts.specs.declared.list.Flight.{Flight}
 use Rattle.parts.specs.declared.frame.Frame.{Frame}
-use Rattle.parts.specs.declared.frame.Dispatch.{Dispatch}
 use Rattle.station.specs.declared.station.Station.{Station}
 use Rattle.station.specs.declared.station.Answer.{Answer}
 use Rattle.bench.specs.Ring.{station_at}

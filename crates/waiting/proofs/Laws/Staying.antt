@@ -6,7 +6,7 @@ use mathlib.Core.List.Memᴰ
 use mathlib.Core.List.{Memᴰ}
 use mathlib.Core.Logic.{◌⊎◌, inl, inr}
 use Prim.Native.Nat.{ℕ, ◌<◌}
-use Rattle.parts.specs.Frames.{flight, flight_in, no_flight}
+use Rattle.parts.specs.Frames.{flight, flight_in, no_flight, Dispatch}
 use Rattle.parts.specs.Messages.{all, none, flies}
 use Rattle.parts.specs.Moves.{is_waiting}
 use Rattle.station.specs.Stations.{state_of, awaited_of}
@@ -15,7 +15,6 @@ use Rattle.parts.specs.declared.list.Flight.{Flight}
 use Rattle.parts.specs.declared.list.Message.{Message}
 use Rattle.parts.specs.declared.list.Messages.{Messages}
 use Rattle.parts.specs.declared.frame.Frame.{Frame}
-use Rattle.parts.specs.declared.frame.Dispatch.{Dispatch}
 use Rattle.station.specs.declared.station.Station.{Station}
 use Rattle.station.specs.declared.station.Answer.{Answer}
 use Rattle.station_theorems.specs.Leaves.{flying}

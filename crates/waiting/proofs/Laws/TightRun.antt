@@ -11,10 +11,9 @@ use Rattle.parts.specs.Frames.{next}
 use Rattle.sent.specs.Round.{priority_of, opening, carrying, granting, information_of, reply}
 use Rattle.parts.specs.declared.list.Message.{Message}
 use Rattle.parts.specs.declared.list.Best.{Best}
-use Rattle.parts.specs.declared.frame.Whom.TheVariants.{Nobody}
+use Rattle.std.specs.Prelude.{None, Some}
 use Rattle.parts.specs.declared.frame.TransmitFrame.{TransmitFrame}
 use Rattle.parts.specs.declared.frame.Frame.TheVariants.{Token, Transmit, Information}
-use Rattle.parts.specs.declared.frame.Dispatch.TheVariants.{Sent}
 use Rattle.parts.proofs.Laws.Live.{after_inside, after_last}
 use Rattle.bench.specs.Delivery.{step}
 use Rattle.bench.specs.declared.ring.Bench.{Bench}
@@ -46,7 +45,7 @@ module _ (n : ℕ) (three : 3 ≤ n) (most : n ≤ 64) where
       ahead_own spot 9 r alone_below (Information (carrying (next j) its)) 1 (sends_one n 0 (granting j 9 1 0) (load n [] 0) its (load_first n [])) refl refl refl
 
   -- the round of master 1
-  second_round : (k : ℕ) (b : Bench) → Runs n (load n []) 1 (Token (opening 1 0 k Nobody)) (after n 1) b → Ahead spot 9 b (0 + n) 0
+  second_round : (k : ℕ) (b : Bench) → Runs n (load n []) 1 (Token (opening 1 0 k None)) (after n 1) b → Ahead spot 9 b (0 + n) 0
   second_round =
       round spot 9 n most (load n []) alone_below (omega arith) 1 0 (omega arith) (after_last n (1 + (n - 2)) (omega arith)) (after_inside n 0 (omega arith))
       (λ p a e. load_none n p (omega arith) (λ z. omega arith)) its (load_first n []) (omega arith) goes_now
@@ -55,9 +54,9 @@ module _ (n : ℕ) (three : 3 ≤ n) (most : n ≤ 64) where
   starts_second : (k : ℕ) (b : Bench) → Runs n (load n []) (n - 1) (Information (carrying k foreign)) 1 b → Ahead spot 9 b (0 + n + 1) 0
   starts_second k b r =
       let none : priority_of (top (load n [] 1)) ≡ 0 = none_priority (load n [] 1) (load_none n 1 (omega arith) (λ z. omega arith)) in
-      ahead_short spot 9 r alone_below (Token (opening 1 0 (next k) Nobody)) (after n 1)
-      (starts_round n 1 (top (load n [] 1)) (carrying k foreign) ∙ (λ i. Sent (Token (opening 1 (none i) (next k) Nobody)) (after n 1)))
-      (token_short (opening 1 0 (next k) Nobody)) (second_round (next k) (step b))
+      ahead_short spot 9 r alone_below (Token (opening 1 0 (next k) None)) (after n 1)
+      (starts_round n 1 (top (load n [] 1)) (carrying k foreign) ∙ (λ i. Some (Token (opening 1 (none i) (next k) None), after n 1)))
+      (token_short (opening 1 0 (next k) None)) (second_round (next k) (step b))
 
   -- granted, the last station sends the foreign one
   sends_foreign : (j : ℕ) (c : Bench) → Runs n (load n (foreign ∷ [])) 0 (Transmit (granting j 5 0 (n - 1))) (n - 1) c → Ahead spot 9 c (0 + n + 1) (0 + 1)
@@ -69,7 +68,7 @@ module _ (n : ℕ) (three : 3 ≤ n) (most : n ≤ 64) where
       (λ p h o. load_same n [] (foreign ∷ []) p o) (starts_second (next j) (step c))
 
   -- the round of master 0
-  pub whole_run : (b : Bench) → Runs n (load n (foreign ∷ [])) 0 (Token (opening 0 0 0 Nobody)) (after n 0) b → Ahead spot 9 b (0 + n + 1 + n) (0 + 1)
+  pub whole_run : (b : Bench) → Runs n (load n (foreign ∷ [])) 0 (Token (opening 0 0 0 None)) (after n 0) b → Ahead spot 9 b (0 + n + 1 + n) (0 + 1)
   whole_run =
       round spot 9 n most (load n (foreign ∷ [])) both_below (omega arith) 0 (n - 1) (omega arith)
       (after_inside n (0 + (n - 2)) (omega arith) ∙ omega arith) (after_last n (n - 1) (omega arith))

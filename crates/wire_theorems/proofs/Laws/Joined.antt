@@ -20,8 +20,7 @@ use Rattle.parts.specs.declared.list.Message.{Message}
 use Rattle.parts.specs.declared.list.Messages.{Messages}
 use Rattle.parts.specs.declared.list.Which.TheVariants.{OnChannel}
 use Rattle.parts.specs.declared.request.Request.{Request}
-use Rattle.parts.specs.declared.frame.Whom.{Whom}
-use Rattle.parts.specs.declared.frame.Whom.TheVariants.{Nobody, Member}
+use Rattle.std.specs.Prelude.{Option, None, Some}
 use Rattle.parts.specs.Refusals.{take_refusal}
 use Rattle.parts.proofs.Laws.Queue.{queue_good}
 use Rattle.station.specs.Stations.{awaited_of, answered, moved, unless, alone}
@@ -30,7 +29,6 @@ use Rattle.station.specs.Heard.{Stored, acknowledged, landed, acknowledge, strik
 use Rattle.station.specs.Queue.{queue_number, new_message, accepted, queue_rule}
 use Rattle.station.specs.Take.{best_on, taking, take_rule}
 use Rattle.station.specs.declared.station.Station.{Station}
-use Rattle.station.specs.declared.station.Payload.TheVariants.{NoPayload, Of}
 use Rattle.station.specs.declared.station.Answer.{Answer}
 use Rattle.station_theorems.proofs.Laws.Kept.{push_all}
 use Rattle.station_theorems.proofs.Laws.Members.{standing}
@@ -41,7 +39,7 @@ use Rattle.station_theorems.proofs.Theorems.Head.{best_is_first}
 use Rattle.driver_buffers.specs.Packets.{frame_of}
 use Rattle.driver_calls.specs.Calls.{heard_then, packet_rule}
 
-no_payload : {m : Message} → NoPayload ≡ Of m → ⊥
+no_payload : {m : Message} → None ≡ Some m → ⊥
 no_payload e = let z : ◌≡◌ {A = ℕ} 0 1 = cc in omega arith
 
 -- ---- a list that a message joins
@@ -70,9 +68,9 @@ pub record Queues (s : Station) (q : Request) (m : Message) (a : Answer) : Type 
   pub length_fits : q.length ≤ 1492
 
 abbrev QueuesAll : Station → Request → Answer → Type 0
-QueuesAll s q a = (m : Message) → a.payload ≡ Of m → Queues s q m a
+QueuesAll s q a = (m : Message) → a.payload ≡ Some m → Queues s q m a
 
-pub queue_joins : (s : Station) (q : Request) → length s.sends.items ≡ 16 → (m : Message) → (queue_rule s q).payload ≡ Of m → Queues s q m (queue_rule s q)
+pub queue_joins : (s : Station) (q : Request) → length s.sends.items ≡ 16 → (m : Message) → (queue_rule s q).payload ≡ Some m → Queues s q m (queue_rule s q)
 unfolding queue_rule moved unless accepted
 queue_joins s q array =
     let none : (n : ℕ) → QueuesAll s q (answered s n) = λ n m e. absurd (no_payload e) in
@@ -93,7 +91,7 @@ pub record Takes (s : Station) (room : ℕ) (m : Message) : Type 0 where
   pub room_fits : m.length ≤ room
 
 abbrev TakesAll : Station → ℕ → Answer → Type 0
-TakesAll s room a = (m : Message) → a.payload ≡ Of m → Takes s room m
+TakesAll s room a = (m : Message) → a.payload ≡ Some m → Takes s room m
 
 taken_good : (s : Station) (channel room : ℕ) → take_refusal channel (best_on s channel) room ≡ 0 → Takes s room (best_on s channel).message
 unfolding take_refusal
@@ -137,10 +135,10 @@ module _ (l : Messages) where
       (pick_keeps LossHas (message_at k.station (flight (awaited_of k.station)).place).some _ k h h)
       h
 
-  failed_has : (s : Station) (w : Whom) → Has s → StruckHas (failed s w)
+  failed_has : (s : Station) (w : Option ℕ) → Has s → StruckHas (failed s w)
   unfolding failed strike_heard strike_other give_up_to
-  failed_has s Nobody h = h
-  failed_has s (Member p) h =
+  failed_has s None h = h
+  failed_has s (Some p) h =
       pick_keeps StruckHas (eqb p s.own) _ _ (flight_has (nothing_gone (strike s p)) h)
       (pick_keeps StruckHas (alone (strike s p)) _ _ (flight_has (give_up_to (strike s p) p) h) h)
 
@@ -150,11 +148,11 @@ pub record Stores (before : Messages) (p : Packet) (m : Message) (after : Messag
   pub length_is : m.length ≡ information_length p
 
 receive_joins : (s : Station) (x : Message) → length s.receives.items ≡ 16 → x.place ≡ lowest_free (all s.receives) → (m : Message)
-    → (receive s x).payload ≡ Of m → (x ≡ m) × JoinsList s.receives m (receive s x).station.receives
+    → (receive s x).payload ≡ Some m → (x ≡ m) × JoinsList s.receives m (receive s x).station.receives
 unfolding receive
 receive_joins s x array free m =
     pick_either
-    (λ (t : Stored). t.payload ≡ Of m → (x ≡ m) × JoinsList s.receives m t.station.receives)
+    (λ (t : Stored). t.payload ≡ Some m → (x ≡ m) × JoinsList s.receives m t.station.receives)
     (leb 16 s.receives.len) _ _
     (λ b e. absurd (no_payload e))
     (λ b e.
@@ -162,7 +160,7 @@ receive_joins s x array free m =
     (same, subst (λ (y : Message). JoinsList s.receives y (pushed s.receives x)) same (push_joins s.receives x array (leb-false _ _ b) free)))
 
 stored_joins : (s : Station) → length s.receives.items ≡ 16 → (ring : List ℕ) (from : ℕ) (p : Packet) (m : Message)
-    → (stored s from (frame_of ring p)).payload ≡ Of m → Stores s.receives p m (stored s from (frame_of ring p)).station.receives
+    → (stored s from (frame_of ring p)).payload ≡ Some m → Stores s.receives p m (stored s from (frame_of ring p)).station.receives
 unfolding stored frame_of
 stored_joins s array ring from (TokenOf p) m e = absurd (no_payload e)
 stored_joins s array ring from (TransmitOf p) m e = absurd (no_payload e)
@@ -172,7 +170,7 @@ stored_joins s array ring from (InformationOf h) m e =
 
 module _ (s : Station) (array : length s.receives.items ≡ 16) (ring : List ℕ) where
   abbrev StoresAll : Packet → Answer → Type 0
-  StoresAll p a = (m : Message) → a.payload ≡ Of m → Stores s.receives p m a.station.receives
+  StoresAll p a = (m : Message) → a.payload ≡ Some m → Stores s.receives p m a.station.receives
 
   respond_stores : (k : Struck) → k.station.receives ≡ s.receives → (from to : ℕ) (p : Packet) → StoresAll p (respond k from to (frame_of ring p))
   unfolding respond handle
@@ -200,7 +198,7 @@ pub record Hears (s : Station) (ring packet : List ℕ) (m : Message) (a : Answe
 
 module _ (s : Station) (array : length s.receives.items ≡ 16) (ring packet : List ℕ) where
   abbrev HearsAll : Answer → Type 0
-  HearsAll a = (m : Message) → a.payload ≡ Of m → Hears s ring packet m a
+  HearsAll a = (m : Message) → a.payload ≡ Some m → Hears s ring packet m a
 
   then_hears : (from to : ℕ) (d : Read) → read_packet ring packet ≡ d → HearsAll (heard_then s ring from to d)
   then_hears from to (Refused why) r m e = absurd (no_payload e)

@@ -10,12 +10,11 @@ use Rattle.codec.specs.Ring.{position}
 use Rattle.packet_codec.specs.Packet.{read_packet, read_number}
 use Rattle.packet_codec.specs.declared.reading.Read.{Read}
 use Rattle.packet_codec.specs.declared.reading.Read.TheVariants.{Refused, Good}
-use Rattle.parts.specs.declared.frame.Whom.TheVariants.{Nobody}
+use Rattle.std.specs.Prelude.{None, Some}
 use Rattle.parts.specs.declared.frame.TokenFrame.{TokenFrame}
 use Rattle.parts.specs.declared.frame.Frame.{Frame}
 use Rattle.parts.specs.declared.frame.Frame.TheVariants.{Token}
-use Rattle.parts.specs.declared.frame.Dispatch.{Dispatch}
-use Rattle.parts.specs.declared.frame.Dispatch.TheVariants.{Nothing, Sent}
+use Rattle.parts.specs.Frames.{Dispatch}
 use Rattle.sent.specs.Round.{priority_of, opening, start_round}
 use Rattle.station.specs.Stations.{awaited_of, head, answered, moved, unless, alone}
 use Rattle.station.specs.Start.{started, start_rule}
@@ -37,11 +36,11 @@ use Rattle.wire_theorems.specs.Wire.{Outgoing}
 
 -- ---- each frame that an answer sends has a property
 
-not_sent : {f : Frame} {to : ℕ} → Nothing ≡ Sent f to → ⊥
+not_sent : {f : Frame} {to : ℕ} → None ≡ Some (f, to) → ⊥
 not_sent e = let z : ◌≡◌ {A = ℕ} 0 1 = cc in omega arith
 
 abbrev pub AwaitsSent : Answer → Type 0
-AwaitsSent a = (f : Frame) (to : ℕ) → a.sent ≡ Sent f to → awaited_of a.station ≡ Sent f to
+AwaitsSent a = (f : Frame) (to : ℕ) → a.sent ≡ Some (f, to) → awaited_of a.station ≡ Some (f, to)
 
 quiet_awaits : (s : Station) (number : ℕ) → AwaitsSent (answered s number)
 quiet_awaits s number f to e = absurd (not_sent e)
@@ -68,8 +67,8 @@ packet_awaits s ring from at packet = moved_awaits s _ _ _ (moved_awaits s _ _ _
 
 on_timer_awaits : (s : Station) (d : Dispatch) → awaited_of s ≡ d → AwaitsSent (on_timer s d)
 unfolding on_timer silence after_strike
-on_timer_awaits s Nothing q = quiet_awaits s 0
-on_timer_awaits s (Sent g at) q =
+on_timer_awaits s None q = quiet_awaits s 0
+on_timer_awaits s (Some (g, at)) q =
     pick_keeps AwaitsSent (ltb s.turn.retries s.limit) _ _ (λ f to e. e)
     (pick_keeps AwaitsSent (alone (unanswered s at).station) _ _ (λ f to e. absurd (not_sent e)) (λ f to e. e))
 
@@ -80,19 +79,19 @@ timer_awaits s = moved_awaits s _ _ _ (on_timer_awaits s (awaited_of s) refl)
 -- ---- a start sends a token
 
 abbrev SendsToken : Answer → Type 0
-SendsToken a = (f : Frame) (to : ℕ) → a.sent ≡ Sent f to → (t : TokenFrame) × (f ≡ Token t)
+SendsToken a = (f : Frame) (to : ℕ) → a.sent ≡ Some (f, to) → (t : TokenFrame) × (f ≡ Token t)
 
 pub start_sends_token : (s : Station) → SendsToken (start_rule s)
 unfolding start_rule started moved start_round
 start_sends_token s =
-    let opened : TokenFrame = opening s.own (priority_of (head s)) 0 Nobody in
+    let opened : TokenFrame = opening s.own (priority_of (head s)) 0 None in
     pick_keeps SendsToken _ _ _
     (pick_keeps SendsToken (eqb s.own 0) _ _ (λ f to e. (opened, (let q : f ≡ Token opened = cc in q))) (λ f to e. absurd (not_sent e)))
     (λ f to e. absurd (not_sent e))
 
 -- ---- of a held record's station
 
-pub outgoing : (rec : List ℕ) → Sure rec → (a : Answer) → Keeps rec a → (f : Frame) (to : ℕ) → awaited_of a.station ≡ Sent f to
+pub outgoing : (rec : List ℕ) → Sure rec → (a : Answer) → Keeps rec a → (f : Frame) (to : ℕ) → awaited_of a.station ≡ Some (f, to)
     → Outgoing (ring_in rec) a.station f to
 outgoing rec h a k f to e =
     let w = whole_is a.station k.0.shaped k.0.is_whole in

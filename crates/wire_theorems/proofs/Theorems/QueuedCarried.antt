@@ -23,7 +23,7 @@ use Rattle.parts.specs.declared.frame.Frame.TheVariants.{Information}
 use Rattle.station.specs.Stations.{state_of, answered, moved, unless}
 use Rattle.station.specs.Queue.{new_message, queue_number, accepted, queue_rule}
 use Rattle.station.specs.declared.station.Station.{Station}
-use Rattle.station.specs.declared.station.Payload.TheVariants.{Of}
+use Rattle.std.specs.Prelude.{Some}
 use Rattle.station.specs.declared.station.Answer.{Answer}
 use Rattle.wholeness.specs.Whole.{apart}
 use Rattle.station_theorems.proofs.Laws.Carried.{best_found}
@@ -48,7 +48,7 @@ use Rattle.wire_theorems.specs.Carried.{Queued, CarriesMessage, OfMessage, Carri
 
 -- an accepted message moves its payload
 abbrev ZeroPuts : Station → Request → Answer → Type 0
-ZeroPuts s q a = a.number ≡ 0 → a.payload ≡ Of (new_message s q)
+ZeroPuts s q a = a.number ≡ 0 → a.payload ≡ Some (new_message s q)
 
 queue_runs : (st : State) → move_of st Queue ≡ 0 → ⊥
 queue_runs Offline e = omega (arith, e)
@@ -74,7 +74,7 @@ queue_puts {rec} p store q payload rec' store' l n =
     let h = held_sure p in
     let k = queue_sure rec h q in
     let sized : length store ≡ store_length = eqb-true _ _ (not-false _ (buffer_good (bad_store (length store)) rec a n.answer)) in
-    let moves : a.payload ≡ Of m = zero_puts s q (own_number (bad_store (length store)) rec a n.answer) in
+    let moves : a.payload ≡ Some m = zero_puts s q (own_number (bad_store (length store)) rec a n.answer) in
     let j = queue_joins s q h.whole.shaped.sends m moves in
     let within : m.place < 32 = omega (arith, j.joins.place_fits) in
     let short : length payload ≤ 1492 = omega (arith, l, j.length_fits) in

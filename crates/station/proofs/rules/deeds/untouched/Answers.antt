@@ -7,13 +7,13 @@ pub returns-then-d : goal.returns-then-d
 unfolding untouched pick
 returns-then-d c = rw c.if-d.true
 
-pub returns-in-NoPayload : goal.returns-in-NoPayload
+pub returns-in-None : goal.returns-in-None
 unfolding untouched pick
-returns-in-NoPayload c = rw (c.if-d.false, c.in-Spares.is, c.in-NoPayload.is)
+returns-in-None c = rw (c.if-d.false, c.in-Spares.is, c.in-None.is)
 
-pub returns-in-Of : goal.returns-in-Of
+pub returns-in-Some : goal.returns-in-Some
 unfolding untouched pick
-returns-in-Of c = rw (c.if-d.false, c.in-Spares.is, c.in-Of.is)
+returns-in-Some c = rw (c.if-d.false, c.in-Spares.is, c.in-Some.is)
 
 pub returns-in-Another : goal.returns-in-Another
 unfolding untouched pick
