@@ -41,7 +41,7 @@ frame_strikes s f from to =
 -- ---- the timer: only the addressee of the awaited frame is told, where the retries are not below the limit
 
 same_place : (f : Frame) (p q : ℕ) → Some p ≡ Some q → Some (f, p) ≡ Some (f, q)
-same_place f p q e = ap ((λ q. Some (f, q))) (same_member p q e)
+same_place f p q e = ap (λ (q : ℕ). Some (f, q)) (same_member p q e)
 
 pub timer_strikes : (s : Station) → Strikes s (timer_rule s) (LastTimer s)
 timer_strikes s =
