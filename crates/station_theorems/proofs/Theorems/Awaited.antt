@@ -16,6 +16,8 @@ use Rattle.parts.specs.declared.list.Messages.{Messages}
 use Rattle.parts.specs.declared.list.Best.{Best}
 use Rattle.parts.specs.declared.list.Which.TheVariants.{HasPlace}
 use Rattle.std.specs.Prelude.{Option, None, Some}
+use Rattle.std.proofs.lemmas.Option.{none-some}
+use Rattle.parts.proofs.Laws.Frames.{same_frame, same_to}
 use Rattle.parts.specs.declared.frame.InformationFrame.{InformationFrame}
 use Rattle.parts.specs.declared.frame.Frame.{Frame}
 use Rattle.parts.specs.declared.frame.Frame.TheVariants.{Token, Transmit, Information}
@@ -118,9 +120,7 @@ awaited_is st n own l (Some (f, to)) e =
       one_when_waiting = λ q. (f, to, refl);
       none_otherwise = λ q. absurd (q (waiting_is st t.0));
       each_proper = λ g r q.
-          let same_frame : f ≡ g = cc in
-          let same_to : to ≡ r = cc in
-          subst (λ (x : Frame). Proper n own l x r) same_frame (subst (Proper n own l f) same_to p);
+          subst (λ (x : Frame). Proper n own l x r) (same_frame q) (subst (Proper n own l f) (same_to q) p);
     }
 
 pub is_awaited : (st : State) (n own : ℕ) (l : Messages) → apart [] (all l) ≡ true → (d : Dispatch) → Awaited st n own l d → awaited_good st n own l d ≡ true
@@ -128,7 +128,7 @@ unfolding awaited_good
 is_awaited st n own l a None k = go (is_waiting st) refl
   where
     go : (b : Bool) → is_waiting st ≡ b → not (is_waiting st) ≡ true
-    go true e = let r = k.one_when_waiting (waiting_is st e) in let q : None ≡ Some (r.0, r.1) = r.2 in absurd (let z : ◌≡◌ {A = ℕ} 0 1 = cc in omega arith)
+    go true e = absurd (none-some _ (k.one_when_waiting (waiting_is st e)).2)
     go false e = ap not e
 is_awaited st n own l a (Some (f, to)) k = go (is_waiting st) refl
   where
@@ -139,6 +139,4 @@ is_awaited st n own l a (Some (f, to)) k = go (is_waiting st) refl
     go true e =
         hold _
         (e, (is_fit n f p.fits_to_write, (lt-ltb to n p.member, (ap not (ne_eqb to own p.another), (is_carried l a f to p.carries, tt)))))
-    go false e =
-        let q : Some (f, to) ≡ None = k.none_otherwise (λ w. false≢true (sym e ∙ ap is_waiting w)) in
-        absurd (let z : ◌≡◌ {A = ℕ} 0 1 = cc in omega arith)
+    go false e = absurd (none-some _ (sym (k.none_otherwise (λ w. false≢true (sym e ∙ ap is_waiting w)))))

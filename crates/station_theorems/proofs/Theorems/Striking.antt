@@ -4,7 +4,7 @@ use mathlib.Core.Path.{◌≡◌, sym, ap, ◌∙◌}
 use mathlib.Core.Bool.{true}
 use Prim.Native.Nat.{ℕ}
 use Rattle.parts.specs.Live.{live_at}
-use Rattle.parts.specs.Frames.{failing_of}
+use Rattle.parts.specs.Frames.{failing_of, Dispatch}
 use Rattle.station.specs.Heard.{heard, frame_rule}
 use Rattle.station.specs.Timer.{timer_rule}
 use Rattle.std.specs.Prelude.{Option, None, Some}
@@ -40,7 +40,7 @@ frame_strikes s f from to =
 
 -- ---- the timer: only the addressee of the awaited frame is told, where the retries are not below the limit
 
-same_place : (f : Frame) (p q : ℕ) → Some p ≡ Some q → Some (f, p) ≡ Some (f, q)
+same_place : (f : Frame) (p q : ℕ) → Some p ≡ Some q → ◌≡◌ {A = Dispatch} (Some (f, p)) (Some (f, q))
 same_place f p q e = ap (λ (q : ℕ). Some (f, q)) (same_member p q e)
 
 pub timer_strikes : (s : Station) → Strikes s (timer_rule s) (LastTimer s)
