@@ -13,6 +13,7 @@ use Rattle.sent.specs.Round.{reply}
 use Rattle.parts.specs.declared.list.Message.{Message}
 use Rattle.parts.specs.declared.frame.Frame.{Frame}
 use Rattle.std.specs.Prelude.{Some}
+use Rattle.parts.proofs.Laws.Frames.{same_frame, same_to}
 use Rattle.bench.specs.Ring.{station_at}
 use Rattle.bench.specs.Delivery.{deliver_to, step}
 use Rattle.bench.specs.declared.ring.Wire.{Wire}
@@ -34,18 +35,12 @@ pub record Runs (n : ℕ) (load : ℕ → List Message) (from : ℕ) (f : Frame)
   pub wire : b.wire ≡ wire_of from (Some (f, to))
   pub loads : (p : ℕ) → p < n → waiting (station_at b p) ≡ load p
 
-same_frame : {f g : Frame} {p q : ℕ} → Some (f, p) ≡ Some (g, q) → f ≡ g
-same_frame e = cc
-
-same_to : {f g : Frame} {p q : ℕ} → Some (f, p) ≡ Some (g, q) → p ≡ q
-same_to e = cc
-
 step_n : {limit : ℕ} (b : Bench) → Quiet limit b → (step b).n ≡ b.n
 unfolding deliver_to
 step_n b q = ap (λ (c : Bench). c.n) (step_delivers b q)
 
 module _ {n : ℕ} {load : ℕ → List Message} {from : ℕ} {f : Frame} {to : ℕ} {b : Bench} (r : Runs n load from f to b) where
-  on_wire : Some (r.quiet.frame, r.quiet.to) ≡ Some (f, to)
+  on_wire : ◌≡◌ {A = Dispatch} (Some (r.quiet.frame, r.quiet.to)) (Some (f, to))
   on_wire = sym r.quiet.on_wire ∙ ap (λ (w : Wire). w.sent) r.wire
 
   frame_is : r.quiet.frame ≡ f
