@@ -16,6 +16,7 @@ use Rattle.station.specs.Queue.{accepted, queue_rule}
 use Rattle.parts.specs.declared.moves.Event.{Event}
 use Rattle.parts.specs.declared.moves.State.{State}
 use Rattle.std.specs.Prelude.{Option, None, Some}
+use Rattle.std.proofs.lemmas.Option.{none-some}
 use Rattle.parts.specs.declared.frame.Frame.{Frame}
 use Rattle.parts.specs.declared.frame.Frame.TheVariants.{Token, Transmit, Information}
 use Rattle.parts.specs.declared.request.Request.{Request}
@@ -89,16 +90,13 @@ stored_seat s from (Information i) =
 
 -- ---- what is sent is awaited
 
-pub not_sent : {f : Frame} {to : ℕ} → None ≡ Some (f, to) → ⊥
-not_sent e = let z : ◌≡◌ {A = ℕ} 0 1 = cc in omega arith
-
 -- a call's answer: the station in its place, awaiting what it sends
 pub record Placed (s : Station) (a : Answer) : Type 0 where
   pub seat : Seat s a.station
   pub awaits : (f : Frame) (to : ℕ) → a.sent ≡ Some (f, to) → awaited_of a.station ≡ Some (f, to)
 
 pub placed_answered : (s : Station) (number : ℕ) → Placed s (answered s number)
-placed_answered s number = record { seat = same_seat s; awaits = λ f to e. absurd (not_sent e) }
+placed_answered s number = record { seat = same_seat s; awaits = λ f to e. absurd (none-some _ e) }
 
 placed_moved : (s : Station) (e : Event) (a : Answer) → Placed s a → Placed s (moved s e a)
 unfolding moved
@@ -113,7 +111,7 @@ unfolding respond handle
 respond_placed s k from to f h =
     let t = then_seat h (stored_seat k.station from f) in
     pick_keeps (Placed s) (nothing_more k.station to (number_of f)) _ _
-    (record { seat = h; awaits = λ g p e. absurd (not_sent e) })
+    (record { seat = h; awaits = λ g p e. absurd (none-some _ e) })
     (record { seat = record { same_n = t.same_n; same_limit = t.same_limit; same_own = t.same_own }; awaits = λ g p e. e })
 
 -- the station that responds to a frame
@@ -139,7 +137,7 @@ on_timer_placed s (Some (g, at)) =
     pick_keeps (Placed s) (ltb s.turn.retries s.limit) _ _
     (record { seat = record { same_n = refl; same_limit = refl; same_own = refl }; awaits = λ f to e. e })
     (pick_keeps (Placed s) (alone (unanswered s at).station) _ _
-    (record { seat = record { same_n = h.same_n; same_limit = h.same_limit; same_own = h.same_own }; awaits = λ f to e. absurd (not_sent e) })
+    (record { seat = record { same_n = h.same_n; same_limit = h.same_limit; same_own = h.same_own }; awaits = λ f to e. absurd (none-some _ e) })
     (record { seat = record { same_n = h.same_n; same_limit = h.same_limit; same_own = h.same_own }; awaits = λ f to e. e }))
 
 pub timer_placed : (s : Station) → Placed s (timer_rule s)
@@ -151,7 +149,7 @@ unfolding queue_rule accepted
 queue_placed s q =
     placed_moved s _ _
     (placed_unless s _ _
-    (record { seat = record { same_n = refl; same_limit = refl; same_own = refl }; awaits = λ f to e. absurd (not_sent e) }))
+    (record { seat = record { same_n = refl; same_limit = refl; same_own = refl }; awaits = λ f to e. absurd (none-some _ e) }))
 
 -- ---- who sends nothing
 
