@@ -12,7 +12,6 @@ use station::station::{Answer, Station};
 #[derive(Drop)]
 #[derive(Clone, Copy)]
 pub enum Call {
-    NoCall,
     TimerCall(bool),
     QueueCall(Request),
 }
@@ -94,11 +93,13 @@ pub fn timed(s: Station, room: bool, a: Answer) -> Answered
     }
 }
 
-pub fn do_call(s: Station, c: Call) -> Answered
+pub fn do_call(s: Station, c: Option<Call>) -> Answered
     ensures { result ≡ called_by s c }
 {
-    match c {
-        Call::NoCall => refused(s, 0),
+    let Some(call) = c else {
+        return refused(s, 0);
+    };
+    match call {
         Call::TimerCall(room) => {
             let a = s.timer();
             timed(s, room, a)
@@ -112,7 +113,7 @@ pub fn do_call(s: Station, c: Call) -> Answered
 }
 
 // What the call tells.
-pub fn told_by(s: Station, c: Call) -> Told
+pub fn told_by(s: Station, c: Option<Call>) -> Told
     ensures { result ≡ told_by s c }
 {
     let d = do_call(s, c);
@@ -120,7 +121,7 @@ pub fn told_by(s: Station, c: Call) -> Told
 }
 
 // The station that it leaves.
-pub fn kept_by(s: Station, c: Call) -> Kept
+pub fn kept_by(s: Station, c: Option<Call>) -> Kept
     ensures { result ≡ kept_by s c }
 {
     let d = do_call(s, c);
