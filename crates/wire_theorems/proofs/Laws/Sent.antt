@@ -4,7 +4,6 @@ use mathlib.Core.Path.{◌≡◌, refl, sym, subst}
 use mathlib.Core.Bool.{Bool}
 use mathlib.Core.List.{List}
 use Prim.Native.Nat.{ℕ}
-use native.Mathlib.Omega.{arith}
 use lib.Dec.{ltb, eqb}
 use Rattle.codec.specs.Ring.{position}
 use Rattle.packet_codec.specs.Packet.{read_packet, read_number}
