@@ -2,7 +2,6 @@
 use Rattle.std.specs.Prelude.{ℕ, ◌+◌, ◌-◌, ◌%◌, ◌^◌, Bool, true, false, ◌==◌, nat_le, nat_lt, Option, None, Some}
 use Rattle.codec.specs.Sizes.{most_information}
 use Rattle.parts.specs.Choose.{pick}
-use Rattle.parts.specs.declared.list.Flight.{Flight}
 use Rattle.parts.specs.declared.frame.TokenFrame.{TokenFrame}
 use Rattle.parts.specs.declared.frame.TransmitFrame.{TransmitFrame}
 use Rattle.parts.specs.declared.frame.InformationFrame.{InformationFrame}
@@ -23,16 +22,13 @@ abbrev pub next : ℕ → ℕ
 next k = (k + 1) % 2 ^ 16
 
 -- "a message is in flight exactly when the awaited frame is its information frame": the frame tells its place
-abbrev pub no_flight : Flight
-no_flight = record { on = false; place = 0 }
+abbrev pub flight_in : Frame → Option ℕ
+flight_in (Token t) = None
+flight_in (Transmit t) = None
+flight_in (Information i) = Some i.place
 
-abbrev pub flight_in : Frame → Flight
-flight_in (Token t) = no_flight
-flight_in (Transmit t) = no_flight
-flight_in (Information i) = record { on = true; place = i.place }
-
-abbrev pub flight : Dispatch → Flight
-flight None = no_flight
+abbrev pub flight : Dispatch → Option ℕ
+flight None = None
 flight (Some (frame, to)) = flight_in frame
 
 -- a token's failing station

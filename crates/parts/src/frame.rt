@@ -16,7 +16,6 @@ ghost use Rattle.parts.specs.Frames.{
   fit,
 };
 
-use crate::list::Flight;
 use codec::sizes::INFORMATION;
 
 #[derive(Drop)]
@@ -77,34 +76,22 @@ pub fn next(k: u16) -> u16
     std::num::wrapping_add_u16(k, 1)
 }
 
-fn flight_in(f: Frame) -> Flight
+fn flight_in(f: Frame) -> Option<u8>
     ensures { result ≡ flight_in f }
 {
     match f {
-        Frame::Token(_) => Flight {
-            on: false,
-            place: 0,
-        },
-        Frame::Transmit(_) => Flight {
-            on: false,
-            place: 0,
-        },
-        Frame::Information(i) => Flight {
-            on: true,
-            place: i.place,
-        },
+        Frame::Token(_) => None,
+        Frame::Transmit(_) => None,
+        Frame::Information(i) => Some(i.place),
     }
 }
 
-// Which message an awaited frame has in flight.
-pub fn flight(d: Dispatch) -> Flight
+// The place of the message that an awaited frame has in flight, if one is.
+pub fn flight(d: Dispatch) -> Option<u8>
     ensures { result ≡ flight d }
 {
     match d {
-        None => Flight {
-            on: false,
-            place: 0,
-        },
+        None => None,
         Some((frame, _)) => flight_in(frame),
     }
 }

@@ -1,11 +1,11 @@
 -- What is sent: starting a round, sending the head, granting, passing a token on.
 use Rattle.std.specs.Prelude.{[], ◌∷◌, ℕ, ltb, eqb, Option, None, Some}
+use Rattle.std.specs.Option.{option_map_or}
 use Rattle.parts.specs.Choose.{pick}
 use Rattle.codec.specs.Order.{first_of}
 use Rattle.parts.specs.Live.{live_at}
 use Rattle.parts.specs.Frames.{next, Dispatch}
 use Rattle.parts.specs.declared.list.Message.{Message}
-use Rattle.parts.specs.declared.list.Best.{Best}
 use Rattle.parts.specs.declared.frame.TokenFrame.{TokenFrame}
 use Rattle.parts.specs.declared.frame.TransmitFrame.{TransmitFrame}
 use Rattle.parts.specs.declared.frame.InformationFrame.{InformationFrame}
@@ -15,8 +15,9 @@ use Rattle.sent.specs.declared.round.Sight.{Sight}
 use Rattle.sent.specs.declared.round.Bid.{Bid}
 
 -- the head's priority, 0 if there is none
-abbrev pub priority_of : Best → ℕ
-priority_of b = pick b.some b.message.priority 0
+abbrev pub priority_of : Option Message → ℕ
+priority_of None = 0
+priority_of (Some m) = m.priority
 
 -- ---- the frames that are composed
 
@@ -48,7 +49,7 @@ information_of number m = Some (Information (carrying number m), m.other)
 
 -- told to send: the head goes; "told to send with no head, it starts a round"
 unfoldable pub send_head : Sight → ℕ → Dispatch
-send_head v number = pick v.head.some (information_of number v.head.message) (start_round v number None)
+send_head v number = option_map_or (information_of number) v.head (start_round v number None)
 
 -- a transmit token to the named station; "told to grant to a struck station, it starts a round"
 unfoldable pub grant : Sight → ℕ → ℕ → ℕ → Dispatch

@@ -16,7 +16,7 @@ ghost use Rattle.sent.specs.Round.{
 };
 
 use parts::frame::{Dispatch, Frame, InformationFrame, TokenFrame, TransmitFrame};
-use parts::list::Best;
+use parts::list::Message;
 use parts::live::Live;
 
 // What a station looks at when it composes a frame.
@@ -26,7 +26,7 @@ pub struct Sight {
     pub own: u8,
     pub live: Live,
     pub next: u8,
-    pub head: Best,
+    pub head: Option<Message>,
 }
 
 // A token's priority and its named station.
@@ -37,10 +37,13 @@ pub struct Bid {
     pub named: u8,
 }
 
-pub fn priority_of(b: Best) -> u8
+pub fn priority_of(b: Option<Message>) -> u8
     ensures { result ≡ priority_of b }
 {
-    if b.some { b.message.priority } else { 0 }
+    match b {
+        None => 0,
+        Some(m) => m.priority,
+    }
 }
 
 pub fn start_round(v: Sight, number: u16, failing: Option<u8>) -> Dispatch
@@ -61,9 +64,7 @@ pub fn start_round(v: Sight, number: u16, failing: Option<u8>) -> Dispatch
 pub fn send_head(v: Sight, number: u16) -> Dispatch
     ensures { result ≡ send_head v number }
 {
-    let b = v.head;
-    if b.some {
-        let m = b.message;
+    if let Some(m) = v.head {
         let frame = Frame::Information(InformationFrame {
             number,
             priority: m.priority,

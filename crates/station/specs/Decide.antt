@@ -4,7 +4,7 @@ use Rattle.parts.specs.Choose.{pick}
 use Rattle.parts.specs.Moves.{move_of, runs}
 use Rattle.parts.specs.Messages.{best}
 use Rattle.parts.specs.Live.{without, successor}
-use Rattle.parts.specs.Frames.{number_of, flight, no_flight, failing_of, Dispatch}
+use Rattle.parts.specs.Frames.{number_of, flight, failing_of, Dispatch}
 use Rattle.sent.specs.Round.{reply, start_round}
 use Rattle.sent.specs.Resend.{resend}
 use Rattle.station.specs.Stations.{state_of, awaited_of, quiet_turn, sending_turn, more_turn}
@@ -13,7 +13,6 @@ use Rattle.station.specs.Deeds.{verdict, refused, turned}
 use Rattle.parts.specs.declared.moves.State.TheVariants.{Idle, Alone, Excluded}
 use Rattle.parts.specs.declared.moves.Event.TheVariants.{Start, Heard, Timer}
 use Rattle.parts.specs.declared.live.Live.{Live}
-use Rattle.parts.specs.declared.list.Flight.{Flight}
 use Rattle.parts.specs.declared.list.Which.{Which}
 use Rattle.parts.specs.declared.list.Which.TheVariants.{AnyWaiting, WaitingForOthers}
 use Rattle.parts.specs.declared.list.Message.{Message}
@@ -35,7 +34,7 @@ unfoldable pub live_without : Live → Option ℕ → Live
 live_without l None = l
 live_without l (Some p) = without l p
 
-unfoldable pub competing : Flight → Option ℕ → Which
+unfoldable pub competing : Option ℕ → Option ℕ → Which
 competing f None = AnyWaiting f
 competing f (Some p) = WaitingForOthers f p
 
@@ -53,8 +52,8 @@ sight_after s w =
 unfoldable pub rested : Turn → Bool → Turn
 rested t acked = pick acked (quiet_turn t Idle) t
 
-unfoldable pub lands_by : Turn → Bool → Flight
-lands_by t acked = pick acked (flight t.awaited) no_flight
+unfoldable pub lands_by : Turn → Bool → Option ℕ
+lands_by t acked = pick acked (flight t.awaited) None
 
 -- ---- 3, a failing station
 
@@ -129,7 +128,7 @@ turned_by s f from to =
 -- the last timer of a frame to `to`
 abbrev pub strikes_out : Station → ℕ → Turn → Dispatch → Verdict
 strikes_out s to t d =
-    verdict 0 t d (record { lands = no_flight; flight = flight (awaited_of s); blow = blow.Last to; stores = None })
+    verdict 0 t d (record { lands = None; flight = flight (awaited_of s); blow = blow.Last to; stores = None })
 
 abbrev pub going_on : Station → ℕ → Dispatch → Verdict
 going_on s to d = strikes_out s to (sending_turn s.turn.handled d) d

@@ -1,16 +1,16 @@
 -- What is done to a station once it is decided: who leaves the send list, why and in which order; who is struck; what is stored.
-use Rattle.std.specs.Prelude.{Bool, true, false, ℕ, leb, Option, None, Some}
+use Rattle.std.specs.Prelude.{Bool, true, false, ℕ, leb, Option, None, Some, is_some}
+use Rattle.std.specs.Option.{option_map_or}
 use Rattle.parts.specs.Choose.{pick}
 use Rattle.parts.specs.Messages.{none, pushed, split_by, best}
 use Rattle.parts.specs.Live.{without}
-use Rattle.parts.specs.Frames.{no_flight, Dispatch}
+use Rattle.parts.specs.Frames.{Dispatch}
 use Rattle.parts.specs.Live.{newly}
 use Rattle.station.specs.Stations.{station_by, with_turn, add_up_to}
 use Rattle.parts.specs.declared.live.Live.{Live}
 use Rattle.parts.specs.declared.list.Message.{Message}
 use Rattle.parts.specs.declared.list.Messages.{Messages}
 use Rattle.parts.specs.declared.list.Parts.{Parts}
-use Rattle.parts.specs.declared.list.Flight.{Flight}
 use Rattle.parts.specs.declared.list.Which.TheVariants.{WaitingFor, HasPlace}
 use Rattle.station.specs.declared.station.Turn.{Turn}
 use Rattle.station.specs.declared.station.Station.{Station}
@@ -24,7 +24,7 @@ use Rattle.station.specs.declared.rules.deeds.Received.{Received}
 -- ---- what is to be done
 
 abbrev pub no_deeds : Deeds
-no_deeds = record { lands = no_flight; flight = no_flight; blow = Spares; stores = None }
+no_deeds = record { lands = None; flight = None; blow = Spares; stores = None }
 
 -- ---- whether the turn alone changes
 
@@ -39,7 +39,7 @@ stores_none None = true
 stores_none (Some m) = false
 
 unfoldable pub untouched : Deeds → Bool
-untouched d = pick d.lands.on false (pick (spares d.blow) (stores_none d.stores) false)
+untouched d = pick (is_some d.lands) false (pick (spares d.blow) (stores_none d.stores) false)
 
 -- ---- what was decided
 
@@ -57,39 +57,37 @@ turned t d = verdict 0 t d no_deeds
 -- ---- the send list
 
 -- an acknowledged message in flight leaves
-unfoldable pub landing : Flight → Messages → Messages
-landing f l = pick f.on (split_by (HasPlace f.place) l).kept l
+unfoldable pub landing : Option ℕ → Messages → Messages
+landing f l = option_map_or (λ (p : ℕ). (split_by (HasPlace p) l).kept) f l
 
 -- the message at a place is given up, after those that were before
 unfoldable pub also_at : Parts → ℕ → Parts
 also_at d p =
-    pick (best (HasPlace p) d.kept).some
-    (record { kept = (split_by (HasPlace p) d.kept).kept; gone = pushed d.gone (best (HasPlace p) d.kept).message })
-    d
+    option_map_or (λ (m : Message). record { kept = (split_by (HasPlace p) d.kept).kept; gone = pushed d.gone m }) (best (HasPlace p) d.kept) d
 
 -- any message in flight is given up
-unfoldable pub also_flight : Parts → Flight → Parts
-also_flight d f = pick f.on (also_at d f.place) d
+unfoldable pub also_flight : Parts → Option ℕ → Parts
+also_flight d f = option_map_or (also_at d) f d
 
 abbrev pub all_stay : Messages → Parts
 all_stay l = record { kept = l; gone = none }
 
 -- those that are given up with a station that is struck: the waiting ones to it, where f is in flight
-unfoldable pub waiters_leave : Blow → Flight → Messages → Parts
+unfoldable pub waiters_leave : Blow → Option ℕ → Messages → Parts
 waiters_leave Spares f l = all_stay l
 waiters_leave (Another p) f l = split_by (WaitingFor f p) l
 waiters_leave (Last p) f l = split_by (WaitingFor f p) l
 waiters_leave (Itself p) f l = all_stay l
 
 -- and the one in flight, where it goes too
-unfoldable pub flight_leaves : Blow → Flight → Flight
-flight_leaves Spares f = no_flight
-flight_leaves (Another p) f = no_flight
+unfoldable pub flight_leaves : Blow → Option ℕ → Option ℕ
+flight_leaves Spares f = None
+flight_leaves (Another p) f = None
 flight_leaves (Last p) f = f
 flight_leaves (Itself p) f = f
 
 -- who is given up with a station that is struck, in order, where f is in flight
-unfoldable pub leaving : Blow → Flight → Messages → Parts
+unfoldable pub leaving : Blow → Option ℕ → Messages → Parts
 leaving Spares f l = all_stay l
 leaving (Another p) f l = split_by (WaitingFor f p) l
 leaving (Last p) f l = also_flight (split_by (WaitingFor f p) l) f

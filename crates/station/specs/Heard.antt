@@ -1,5 +1,6 @@
 -- "Heard frame, in this order": checks; acknowledgement; failing station; what stops; what is sent.
 use Rattle.std.specs.Prelude.{Bool, true, false, not, [], ◌∷◌, ℕ, leb, eqb, Option, None, Some}
+use Rattle.std.specs.Option.{option_map_or}
 use Rattle.parts.specs.Choose.{pick}
 use Rattle.codec.specs.Order.{first_of}
 use Rattle.parts.specs.Moves.{is_idle, is_waiting}
@@ -36,7 +37,7 @@ acknowledged s from k = pick (is_waiting (state_of s)) (acknowledges (awaited_of
 
 -- a message in flight leaves the list
 unfoldable pub landed : Station → Station
-landed s = pick (flight (awaited_of s)).on (leave s (flight (awaited_of s)).place) s
+landed s = option_map_or (leave s) (flight (awaited_of s)) s
 
 -- "it becomes Idle, and a message in flight leaves the list"
 unfoldable pub acknowledge : Station → ℕ → ℕ → Station

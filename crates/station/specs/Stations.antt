@@ -10,7 +10,7 @@ use Rattle.parts.specs.declared.moves.State.TheVariants.{Offline, Waiting}
 use Rattle.parts.specs.declared.moves.Event.{Event}
 use Rattle.parts.specs.declared.live.Live.{Live}
 use Rattle.parts.specs.declared.list.Messages.{Messages}
-use Rattle.parts.specs.declared.list.Best.{Best}
+use Rattle.parts.specs.declared.list.Message.{Message}
 use Rattle.parts.specs.declared.list.Which.TheVariants.{AnyWaiting}
 use Rattle.station.specs.declared.station.Turn.{Turn}
 use Rattle.station.specs.declared.station.Counts.{Counts}
@@ -103,7 +103,7 @@ abbrev pub alone : Station → Bool
 alone s = eqb (successor s.live s.n s.own) s.own
 
 -- "the head is the waiting message with the highest priority, the earliest accepted among equals; the one in flight does not wait"
-unfoldable pub head : Station → Best
+unfoldable pub head : Station → Option Message
 head s = best (AnyWaiting (flight (awaited_of s))) s.sends
 
 -- ---- answers

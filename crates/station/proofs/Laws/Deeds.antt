@@ -19,10 +19,10 @@ use Rattle.parts.specs.declared.moves.State.TheVariants.{Idle, Alone, Excluded}
 use Rattle.parts.specs.declared.list.Message.{Message}
 use Rattle.parts.specs.declared.list.Messages.{Messages}
 use Rattle.parts.specs.declared.list.Parts.{Parts}
-use Rattle.parts.specs.declared.list.Flight.{Flight}
 use Rattle.parts.specs.declared.list.Which.{Which}
 use Rattle.parts.specs.declared.list.Which.TheVariants.{WaitingFor, HasPlace}
-use Rattle.std.specs.Prelude.{Option, None, Some}
+use Rattle.std.specs.Prelude.{Option, None, Some, is_some}
+use Rattle.std.specs.Option.{option_map_or}
 use Rattle.station.specs.declared.station.Turn.{Turn}
 use Rattle.station.specs.declared.station.Station.{Station}
 use Rattle.station.specs.declared.rules.deeds.Blow.{Blow}
@@ -39,24 +39,23 @@ loss_of s d = record { station = with_sends s d.kept; gone = d.gone }
 
 module _ (s : Station) (d : Parts) where
   given_up_at : (p : ℕ) → give_up_at (loss_of s d) p ≡ loss_of s (also_at d p)
-  unfolding give_up_at also_at pick
-  given_up_at p = go (best (HasPlace p) d.kept).some
+  unfolding give_up_at also_at
+  given_up_at p = go (best (HasPlace p) d.kept)
     where
-      more : Parts
-      more = record { kept = (split_by (HasPlace p) d.kept).kept; gone = pushed d.gone (best (HasPlace p) d.kept).message }
+      more : Message → Parts
+      more m = record { kept = (split_by (HasPlace p) d.kept).kept; gone = pushed d.gone m }
 
-      go : (b : Bool) → pick b (loss_of s more) (loss_of s d) ≡ loss_of s (pick b more d)
-      go true = refl
-      go false = refl
+      go : (b : Option Message) → option_map_or (λ (m : Message). loss_of s (more m)) b (loss_of s d) ≡ loss_of s (option_map_or more b d)
+      go None = refl
+      go (Some m) = refl
 
   given_up_flight : give_up_flight (loss_of s d) ≡ loss_of s (also_flight d (flight (awaited_of s)))
-  unfolding give_up_flight also_flight pick
-  given_up_flight = go (flight (awaited_of s)).on
+  unfolding give_up_flight also_flight
+  given_up_flight = go (flight (awaited_of s))
     where
-      go : (b : Bool) → pick b (give_up_at (loss_of s d) (flight (awaited_of s)).place) (loss_of s d)
-          ≡ loss_of s (pick b (also_at d (flight (awaited_of s)).place) d)
-      go true = given_up_at (flight (awaited_of s)).place
-      go false = refl
+      go : (f : Option ℕ) → option_map_or (give_up_at (loss_of s d)) f (loss_of s d) ≡ loss_of s (option_map_or (also_at d) f d)
+      go None = refl
+      go (Some p) = given_up_at p
 
 given_up_to : (s : Station) (p : ℕ) → give_up_to s p ≡ loss_of s (split_by (WaitingFor (flight (awaited_of s)) p) s.sends)
 unfolding give_up_to
@@ -138,16 +137,13 @@ pub acknowledges : (s : Station) (from k : ℕ) → acknowledge s from k ≡ ack
 unfolding acknowledge landed landing lands_by rested pick
 acknowledges s from k = go (acknowledged s from k)
   where
-    f : Flight
-    f = flight (awaited_of s)
-
-    lands : (b : Bool) → quiet (pick b (leave s f.place) s) Idle
-        ≡ with_turn (with_sends s (pick b (split_by (HasPlace f.place) s.sends).kept s.sends)) (quiet_turn s.turn Idle)
-    lands true = refl
-    lands false = refl
+    lands : (f : Option ℕ) → quiet (option_map_or (leave s) f s) Idle
+        ≡ with_turn (with_sends s (option_map_or (λ (p : ℕ). (split_by (HasPlace p) s.sends).kept) f s.sends)) (quiet_turn s.turn Idle)
+    lands None = refl
+    lands (Some p) = refl
 
     go : (a : Bool) → pick a (quiet (landed s) Idle) s ≡ acked_by s a
-    go true = lands f.on
+    go true = lands (flight (awaited_of s))
     go false = refl
 
 -- ---- what is stored changes neither the turn nor what the station looks at
@@ -214,17 +210,17 @@ nothing_touched = refl
 
 pub does_nothing : (s : Station) (v : Verdict) → untouched v.deeds ≡ true → turn_alone s v ≡ carried_out s v
 unfolding carried_out untouched landing leaving live_after struck_by received pick
-does_nothing s v = go v.deeds.lands.on v.deeds.blow v.deeds.stores
+does_nothing s v = go v.deeds.lands v.deeds.blow v.deeds.stores
   where
-    parts : Bool → Blow → Parts
-    parts a b = leaving b v.deeds.flight (pick a (split_by (HasPlace v.deeds.lands.place) s.sends).kept s.sends)
+    parts : Option ℕ → Blow → Parts
+    parts a b = leaving b v.deeds.flight (option_map_or (λ (p : ℕ). (split_by (HasPlace p) s.sends).kept) a s.sends)
 
-    kept : Bool → Blow → Received → Station
+    kept : Option ℕ → Blow → Received → Station
     kept a b r =
         station_by s.n s.limit s.own (live_after s.live b) (parts a b).kept r.list v.turn
         (record { lost = r.lost; givenup = add_up_to s.counts.givenup (parts a b).gone.len })
 
-    go : (a : Bool) (b : Blow) (p : Option Message) → pick a false (pick (spares b) (stores_none p) false) ≡ true
+    go : (a : Option ℕ) (b : Blow) (p : Option Message) → pick (is_some a) false (pick (spares b) (stores_none p) false) ≡ true
         → turn_alone s v
         ≡ record {
           station = kept a b (received s.receives s.counts.lost p);
@@ -234,19 +230,19 @@ does_nothing s v = go v.deeds.lands.on v.deeds.blow v.deeds.stores
           gone = (parts a b).gone;
           payload = (received s.receives s.counts.lost p).payload;
         }
-    go true b p e = absurd (false≢true e)
-    go false blow.Spares None e = rw (add_none s.counts.givenup)
-    go false blow.Spares (Some m) e = absurd (false≢true e)
-    go false (blow.Another q) p e = absurd (false≢true e)
-    go false (blow.Last q) p e = absurd (false≢true e)
-    go false (blow.Itself q) p e = absurd (false≢true e)
+    go (Some q) b p e = absurd (false≢true e)
+    go None blow.Spares None e = rw (add_none s.counts.givenup)
+    go None blow.Spares (Some m) e = absurd (false≢true e)
+    go None (blow.Another q) p e = absurd (false≢true e)
+    go None (blow.Last q) p e = absurd (false≢true e)
+    go None (blow.Itself q) p e = absurd (false≢true e)
 
 pub turned_alone : (s : Station) (number : ℕ) (t : Turn) (d : Dispatch) → turn_alone s (verdict number t d no_deeds) ≡ carried_out s (verdict number t d no_deeds)
 turned_alone s number t d = does_nothing s (verdict number t d no_deeds) nothing_touched
 
 -- ---- who is given up: the waiting ones, then the one in flight
 
-pub leaves_so : (b : Blow) (f : Flight) (l : Messages) → also_flight (waiters_leave b f l) (flight_leaves b f) ≡ leaving b f l
+pub leaves_so : (b : Blow) (f : Option ℕ) (l : Messages) → also_flight (waiters_leave b f l) (flight_leaves b f) ≡ leaving b f l
 unfolding waiters_leave flight_leaves leaving also_flight pick
 leaves_so blow.Spares f l = refl
 leaves_so (blow.Another p) f l = refl

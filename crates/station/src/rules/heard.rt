@@ -6,7 +6,7 @@ ghost use Rattle.station.specs.Decide.{rested, lands_by, blow_at, blow_of, close
 use crate::rules::deeds::{Blow, Deeds, Turned, Verdict};
 use crate::station::{Answer, Station, Turn};
 use parts::frame::{Dispatch, Frame, InformationFrame};
-use parts::list::{Flight, Message};
+use parts::list::Message;
 use parts::live::Live;
 use parts::moves::{Event, State};
 
@@ -49,17 +49,14 @@ pub fn rest(t: Turn, acked: bool) -> Turn
 }
 
 // A message in flight leaves the list.
-pub fn lands_by(t: Turn, acked: bool) -> Flight
+pub fn lands_by(t: Turn, acked: bool) -> Option<u8>
     ensures { result ≡ lands_by t acked }
 {
     if acked {
         let awaited = t.awaited;
         return parts::frame::flight(awaited);
     }
-    Flight {
-        on: false,
-        place: 0,
-    }
+    None
 }
 
 // 3. A failing station.

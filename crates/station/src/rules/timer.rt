@@ -6,7 +6,6 @@ ghost use Rattle.station.specs.Timer.{timer_rule};
 use crate::rules::deeds::{Blow, Deeds, Verdict};
 use crate::station::{Answer, Station, Turn};
 use parts::frame::{Dispatch, Frame};
-use parts::list::Flight;
 use parts::moves::{Event, State};
 
 // The addressee is struck, and what goes with it is given up.
@@ -17,10 +16,7 @@ pub fn strikes_out(s: Station, to: u8, turn: Turn, sent: Dispatch) -> Verdict
     let awaited = t.awaited;
     let flight = parts::frame::flight(awaited);
     let deeds = Deeds {
-        lands: Flight {
-            on: false,
-            place: 0,
-        },
+        lands: None,
         flight,
         blow: Blow::Last(to),
         stores: None,
