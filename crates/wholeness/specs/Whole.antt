@@ -1,5 +1,5 @@
 -- "A record is whole if ...", for all but the record's octets.
-use Rattle.std.specs.Prelude.{Bool, true, false, not, ◌||◌, List, [], ◌∷◌, ◌++◌, ℕ, suc, drop, ltb, leb, eqb, None, Some}
+use Rattle.std.specs.Prelude.{Bool, true, false, not, ◌||◌, List, [], ◌∷◌, ◌++◌, ℕ, suc, drop, ltb, leb, eqb, Option, None, Some}
 use Rattle.codec.specs.Sizes.{most_information}
 use Rattle.parts.specs.Choose.{pick, all_of, every}
 use Rattle.parts.specs.Moves.{is_waiting, is_excluded}
@@ -12,8 +12,6 @@ use Rattle.parts.specs.declared.moves.State.TheVariants.{Offline, Idle, Waiting,
 use Rattle.parts.specs.declared.live.Live.{Live}
 use Rattle.parts.specs.declared.list.Message.{Message}
 use Rattle.parts.specs.declared.list.Messages.{Messages}
-use Rattle.parts.specs.declared.list.Flight.{Flight}
-use Rattle.parts.specs.declared.list.Best.{Best}
 use Rattle.parts.specs.declared.list.Which.TheVariants.{HasPlace}
 use Rattle.parts.specs.declared.frame.InformationFrame.{InformationFrame}
 use Rattle.parts.specs.declared.frame.Frame.{Frame}
@@ -104,23 +102,23 @@ lists_good s = all_of (list_good s.n s.own s.sends ∷ list_good s.n s.own s.rec
 
 -- ---- waiting messages go to live stations, unless Excluded
 
-unfoldable pub waits_well : Live → Flight → Message → Bool
+unfoldable pub waits_well : Live → Option ℕ → Message → Bool
 waits_well l f m = flies f m || live_at l m.other
 
-unfoldable pub waiters_good : State → Live → Flight → List Message → Bool
+unfoldable pub waiters_good : State → Live → Option ℕ → List Message → Bool
 waiters_good st l f ms = pick (is_excluded st) true (every (waits_well l f) ms)
 
 -- ---- a frame is awaited exactly when Waiting, fit to write and to another member; a message is in flight exactly when that frame
 -- is its information frame
 
-unfoldable pub same_message : Best → ℕ → InformationFrame → Bool
-same_message b to i =
+unfoldable pub same_message : Option Message → ℕ → InformationFrame → Bool
+same_message None to i = false
+same_message (Some m) to i =
     all_of
-    (b.some
-    ∷ eqb b.message.other to
-    ∷ eqb b.message.priority i.priority
-    ∷ eqb b.message.channel i.channel
-    ∷ eqb b.message.length i.length
+    (eqb m.other to
+    ∷ eqb m.priority i.priority
+    ∷ eqb m.channel i.channel
+    ∷ eqb m.length i.length
     ∷ [])
 
 unfoldable pub carried : Messages → Frame → ℕ → Bool

@@ -17,4 +17,4 @@ returns-then-k-ne0 c = c.answered-then-k-ne0.ensures ∙ sym (moved_runs _ _ _ c
 
 pub returns : goal.returns
 unfolding take_rule
-returns c = c.taking.ensures ∙ rw c.best_on-b.ensures (sym (moved_runs _ _ _ c.move_of-m.ensures c.if-m-ne-RUN.false ∙ unless_passes _ _ _ (c.take_refusal-k.ensures ∙ ap (λ (b : Option Message). take_refusal c.args.channel b c.args.room) c.best_on-b.ensures) c.if-k-ne0.false))
+returns c = c.taking.ensures ∙ rw (c.unwrap_or.ensures, c.best_on-b.ensures) (sym (moved_runs _ _ _ c.move_of-m.ensures c.if-m-ne-RUN.false ∙ unless_passes _ _ _ (c.take_refusal-k.ensures ∙ ap (λ (b : Option Message). take_refusal c.args.channel b c.args.room) c.best_on-b.ensures) c.if-k-ne0.false))
