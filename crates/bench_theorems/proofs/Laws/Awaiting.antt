@@ -4,11 +4,11 @@ use mathlib.Core.Bool.{true}
 use Prim.Native.Nat.{ℕ, ◌<◌, ◌≤◌}
 use native.Mathlib.Omega.{arith}
 use borrow.Author.Tests.{ltb-true, leb-false, eqb-false, not-true}
-use Rattle.parts.specs.Frames.{fit, flight_in, no_flight, Dispatch}
+use Rattle.parts.specs.Frames.{fit, flight_in, Dispatch}
 use Rattle.station.specs.Stations.{state_of, awaited_of}
 use Rattle.wholeness.specs.Whole.{carried, awaited_good}
 use Rattle.parts.specs.declared.frame.Frame.{Frame}
-use Rattle.std.specs.Prelude.{Some}
+use Rattle.std.specs.Prelude.{None, Some}
 use Rattle.station.specs.declared.station.Station.{Station}
 use Rattle.parts.proofs.Laws.Tests.{held}
 use Rattle.station_theorems.proofs.Laws.Sound.{whole_sound}
@@ -40,7 +40,7 @@ module _ {n limit p : ℕ} {s : Station} (m : Member n limit p s) {f : Frame} {t
   awaited_there = (held _ good).1.1.1.1.0
 
 -- what is offered is still there where no head has become lower
-pub still_offers : {n : ℕ} {f : Frame} (heads later : ℕ → ℕ) → fit n f ≡ true → (flight_in f ≡ no_flight → (q : ℕ) → q < n → heads q ≤ later q)
+pub still_offers : {n : ℕ} {f : Frame} (heads later : ℕ → ℕ) → fit n f ≡ true → (flight_in f ≡ None → (q : ℕ) → q < n → heads q ≤ later q)
     → Offers heads f → Offers later f
 still_offers heads later e w (no_bid t a b) = no_bid t a b
 still_offers {n} heads later e w (bid t a b) =

@@ -9,7 +9,6 @@ use Rattle.parts.specs.Choose.{pick}
 use Rattle.parts.specs.Live.{after}
 use Rattle.parts.specs.Frames.{number_of, next, Dispatch}
 use Rattle.sent.specs.Round.{priority_of, opening, carrying, start_round, information_of, send_head}
-use Rattle.parts.specs.declared.list.Best.{Best}
 use Rattle.parts.specs.declared.list.Message.{Message}
 use Rattle.std.specs.Prelude.{Option, None, Some}
 use Rattle.parts.specs.declared.frame.Frame.{Frame}
@@ -19,7 +18,7 @@ use Rattle.bench_theorems.proofs.Laws.Longest.{longest_information, longest_roun
 use Rattle.bench_theorems.proofs.Laws.Answering.{view}
 
 -- d is the next frame after f from `from`, sent by the station at p with the head h
-pub record Replied (n from : ℕ) (f : Frame) (p : ℕ) (h : Best) (d : Dispatch) : Type 0 where
+pub record Replied (n from : ℕ) (f : Frame) (p : ℕ) (h : Option Message) (d : Dispatch) : Type 0 where
   pub frame : Frame
   pub to : ℕ
   pub sent : d ≡ Some (frame, to)
@@ -45,7 +44,7 @@ own_offer heads p pr k w e = go (eqb pr 0) refl
     go true t = no_bid (opening p pr k w) (eqb-true pr 0 t) refl
     go false t = let some : pr ≡ 0 → ⊥ = eqb-false pr 0 t in bid (opening p pr k w) (omega (arith, some)) (omega arith)
 
-module _ (n p : ℕ) (place : p < n) (h : Best) (from : ℕ) (f : Frame) where
+module _ (n p : ℕ) (place : p < n) (h : Option Message) (from : ℕ) (f : Frame) where
   pub round_replied : ((q : ℕ) → longest n from f q ≤ n + 2) → Replied n from f p h (start_round (view n p h) (next (number_of f)) None)
   unfolding start_round
   round_replied few =

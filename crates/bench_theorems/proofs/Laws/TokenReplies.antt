@@ -9,7 +9,7 @@ use Rattle.parts.specs.Choose.{pick}
 use Rattle.parts.specs.Live.{after}
 use Rattle.parts.specs.Frames.{next, fit, Dispatch}
 use Rattle.sent.specs.Round.{priority_of, granting, passing, grant, returned, bid_of, own_bid, cleared, raised, forward, pass_on, on_token, reply}
-use Rattle.parts.specs.declared.list.Best.{Best}
+use Rattle.parts.specs.declared.list.Message.{Message}
 use Rattle.std.specs.Prelude.{Option, None, Some}
 use Rattle.parts.specs.declared.frame.TokenFrame.{TokenFrame}
 use Rattle.parts.specs.declared.frame.Frame.{Frame}
@@ -38,7 +38,7 @@ grants j p some (bid t a b) = granted _ a b
 
 -- ---- a token
 
-module _ (n : ℕ) (most : n ≤ 64) (p : ℕ) (place : p < n) (h : Best) (from : ℕ) (sender : from < n) (t : TokenFrame) (nobody : t.failing ≡ None) (master : t.master < n) (name : t.named < n) (at : p ≡ after n from) where
+module _ (n : ℕ) (most : n ≤ 64) (p : ℕ) (place : p < n) (h : Option Message) (from : ℕ) (sender : from < n) (t : TokenFrame) (nobody : t.failing ≡ None) (master : t.master < n) (name : t.named < n) (at : p ≡ after n from) where
   abbrev m : ℕ
   m = t.master
 
@@ -130,7 +130,7 @@ module _ (n : ℕ) (most : n ≤ 64) (p : ℕ) (place : p < n) (h : Best) (from 
 
 -- ---- any frame
 
-pub reply_replied : (n : ℕ) → n ≤ 64 → (p : ℕ) → p < n → (h : Best) (from : ℕ) → from < n → {f : Frame} → Phase n from p f → fit n f ≡ true
+pub reply_replied : (n : ℕ) → n ≤ 64 → (p : ℕ) → p < n → (h : Option Message) (from : ℕ) → from < n → {f : Frame} → Phase n from p f → fit n f ≡ true
     → Replied n from f p h (reply (view n p h) f)
 unfolding reply
 reply_replied n most p place h from sender (token t nobody at asked) e =

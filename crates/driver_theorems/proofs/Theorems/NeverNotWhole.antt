@@ -12,8 +12,8 @@ use Rattle.packet_codec.specs.declared.reading.Read.{Read}
 use Rattle.packet_codec.specs.declared.reading.Read.TheVariants.{Refused, Good}
 use Rattle.parts.specs.declared.request.Request.{Request}
 use Rattle.parts.specs.Frames.{Dispatch}
-use Rattle.std.specs.Prelude.{None, Some}
-use Rattle.parts.specs.declared.list.Best.{Best}
+use Rattle.std.specs.Prelude.{Option, None, Some}
+use Rattle.parts.specs.declared.list.Message.{Message}
 use Rattle.station.specs.Stations.{awaited_of, alone}
 use Rattle.station.specs.Start.{started, start_rule}
 use Rattle.station.specs.Timer.{timer_rule, on_timer, silence, after_strike, unanswered}
@@ -93,7 +93,7 @@ unfolding queue_rule accepted
 queue_other s q = moved_gives Other of_moves s _ _ (unless_gives Other s _ _ (refusal_other _ _ _ _ q) not_0)
 
 -- 17, 20, 21
-take_refusal_other : (channel : ℕ) (b : Best) (room : ℕ) → Other (take_refusal channel b room)
+take_refusal_other : (channel : ℕ) (b : Option Message) (room : ℕ) → Other (take_refusal channel b room)
 unfolding take_refusal
 take_refusal_other channel b room =
     let c : Other 17 = λ q. omega (arith, q) in

@@ -37,11 +37,11 @@ excluded s p k e =
     flight_cases (λ (m : Loss). Onward s (quiet (counted m.station m.gone.len) Excluded)) (nothing_gone (strike s p)) (flight (awaited_of s)) refl
     (in_flight_lem (state_of s) s.n s.own s.sends (awaited_of s) k.awaited)
     (λ off. record { kept = quits s.sends k.shaped.sends k.sends _; same_n = refl; same_own = refl })
-    (λ on g.
+    (λ r on g.
     record {
       kept =
-          quits _ (kept_length s.n s.own s.sends k.sends (elsewhere (flight (awaited_of s)).place))
-          (list_only s.n s.own (elsewhere (flight (awaited_of s)).place) s.sends k.sends) _;
+          quits _ (kept_length s.n s.own s.sends k.sends (elsewhere r))
+          (list_only s.n s.own (elsewhere r) s.sends k.sends) _;
       same_n = refl;
       same_own = refl;
     })
@@ -88,9 +88,9 @@ other_struck s p w k m o = go (alone (strike s p)) refl
     go true a =
         flight_cases (λ (x : Loss). Onward s (quiet (counted x.station x.gone.len) Alone)) l (flight (awaited_of s)) refl based.flown
         (λ off. record { kept = counted_sound _ _ (quiet_alone l.station (still_based l.station (flight (awaited_of s)) based off) a); same_n = refl; same_own = refl })
-        (λ on g.
+        (λ r on g.
         record {
-          kept = counted_sound _ _ (quiet_alone (leave l.station (flight (awaited_of s)).place) (left_based l.station (flight (awaited_of s)) based on) a);
+          kept = counted_sound _ _ (quiet_alone (leave l.station r) (left_based l.station (flight (awaited_of s)) based r on) a);
           same_n = refl;
           same_own = refl;
         })

@@ -20,7 +20,7 @@ use Rattle.std.specs.Prelude.{Option, None, Some}
 use Rattle.parts.specs.declared.frame.Frame.{Frame}
 use Rattle.parts.specs.declared.frame.Frame.TheVariants.{Token, Transmit, Information}
 use Rattle.station.specs.declared.station.Station.{Station}
-use Rattle.parts.proofs.Laws.Choose.{pick_true, pick_false}
+use Rattle.parts.proofs.Laws.Choose.{pick_true, pick_false, map_or_keeps, map_or_either}
 use Rattle.parts.proofs.Laws.Messages.{only_length}
 use Rattle.station_theorems.specs.Leaves.{waits_to, flying, Leaves, AnswerLeaves, another_than, stops}
 use Rattle.station_theorems.proofs.Laws.Kept.{apart_only}
@@ -37,7 +37,7 @@ module _ (s : Station) (from k : ℕ) where
   unfolding acknowledge landed
   acknowledge_only =
       pick_either (λ (t : Station). t ≡ with_turn (with_sends s t.sends) t.turn) (acknowledged s from k) _ s
-      (λ e. pick_either (λ (t : Station). quiet t Idle ≡ with_turn (with_sends s t.sends) (quiet t Idle).turn) (flight (awaited_of s)).on _ s (λ g. refl) (λ g. refl))
+      (λ e. map_or_keeps (λ (t : Station). quiet t Idle ≡ with_turn (with_sends s t.sends) (quiet t Idle).turn) _ (flight (awaited_of s)) s (λ p. refl) refl)
       (λ e. refl)
 
   pub not_acknowledged : acknowledged s from k ≡ false → acknowledge s from k ≡ s
@@ -53,8 +53,8 @@ module _ (s : Station) (from k : ℕ) where
     unfolding acknowledge landed
     acknowledged_sends =
         ap (λ (t : Station). all t.sends) (pick_true {b = acknowledged s from k} (quiet (landed s) Idle) s e)
-        ∙ pick_either (λ (t : Station). all t.sends ≡ only (λ (m : Message). not (flying s m)) (all s.sends)) (flight (awaited_of s)).on _ s
-        (λ on. split_kept (HasPlace _) s.sends ∙ only_same _ _ (λ m. ap not (sym (flies_at (flight (awaited_of s)) on m))) (all s.sends))
+        ∙ map_or_either (λ (t : Station). all t.sends ≡ only (λ (m : Message). not (flying s m)) (all s.sends)) _ (flight (awaited_of s)) s
+        (λ p on. split_kept (HasPlace _) s.sends ∙ only_same _ _ (λ m. ap not (sym (flies_at (flight (awaited_of s)) p on m))) (all s.sends))
         (λ off. sym (only_all _ (λ m. ap not (flies_not (flight (awaited_of s)) off m)) (all s.sends)))
 
 -- what the failing station does is the same before and after it

@@ -6,7 +6,7 @@ use Prim.Native.Nat.{ℕ, ◌<◌}
 use lib.Dec.{eqb}
 use borrow.Author.Tests.{lt-ltb, le-ltb, lt-leb, leb-true, leb-false, ltb-true, eqb-false, eq-eqb, ne_eqb, not-true}
 use Rattle.parts.specs.Choose.{pick, every}
-use Rattle.parts.specs.Messages.{all, best, the_best}
+use Rattle.parts.specs.Messages.{all, best}
 use Rattle.parts.specs.Live.{live_at, successor}
 use Rattle.parts.specs.Frames.{next, member_or_nobody, fit, Dispatch}
 use Rattle.station.specs.Stations.{alone, head}
@@ -16,14 +16,13 @@ use Rattle.sent.specs.Resend.{renamed, token_again, resend}
 use Rattle.wholeness.specs.Whole.{message_good, list_good, same_message, carried, awaited_good}
 use Rattle.parts.specs.declared.moves.State.TheVariants.{Waiting}
 use Rattle.parts.specs.declared.list.Message.{Message}
-use Rattle.parts.specs.declared.list.Best.{Best}
 use Rattle.std.specs.Prelude.{Option, None, Some}
 use Rattle.parts.specs.declared.frame.TokenFrame.{TokenFrame}
 use Rattle.parts.specs.declared.frame.Frame.{Frame}
 use Rattle.parts.specs.declared.frame.Frame.TheVariants.{Token, Transmit, Information}
 use Rattle.sent.specs.declared.round.Bid.{Bid}
 use Rattle.station.specs.declared.station.Station.{Station}
-use Rattle.parts.proofs.Laws.Choose.{pick_false}
+use Rattle.parts.proofs.Laws.Choose.{pick_false, map_or_either}
 use Rattle.parts.proofs.Laws.Tests.{held, hold}
 use Rattle.station_theorems.proofs.Laws.Kept.{list_messages, list_apart}
 use Rattle.station_theorems.proofs.Laws.Carried.{each_within, best_found}
@@ -83,29 +82,16 @@ module _ (s : Station) (member : s.own < s.n) (good : list_good s.n s.own s.send
   round_proper number failing e = token_proper _ member e member
 
   -- the head
-  found_same : (number : ℕ) (b : Best) (m : Message) → b ≡ the_best m → same_message b m.other (carrying number m) ≡ true
+  found_same : (number : ℕ) (b : Option Message) (m : Message) → b ≡ Some m → same_message b m.other (carrying number m) ≡ true
   unfolding same_message
   found_same number b m e =
-      ap (λ (x : Best). same_message x m.other (carrying number m)) e
-      ∙ hold _ (
-        refl,
-        (
-          eq-eqb m.other m.other refl,
-          (
-            eq-eqb m.priority m.priority refl,
-            (
-              eq-eqb m.channel m.channel refl,
-              (eq-eqb m.length m.length refl, tt),
-            ),
-          ),
-        ),
-      )
+      ap (λ (x : Option Message). same_message x m.other (carrying number m)) e
+      ∙ hold _ (eq-eqb m.other m.other refl, (eq-eqb m.priority m.priority refl, (eq-eqb m.channel m.channel refl, (eq-eqb m.length m.length refl, tt))))
 
-  head_proper : (number : ℕ) → (head s).some ≡ true → Proper (information_of number (head s).message)
+  head_proper : (number : ℕ) (m : Message) → head s ≡ Some m → Proper (information_of number m)
   unfolding message_good carried best
-  head_proper number e =
-      let m : Message = (head s).message in
-      let f = (head_is_first s).first e in
+  head_proper number m e =
+      let f = (head_is_first s).first m e in
       let g = held _ (each_within (message_good s.n s.own) m f.before f.behind (ap (every (message_good s.n s.own)) (sym f.stands) ∙ list_messages s.n s.own s.sends good)) in
       proper (Information (carrying number m)) m.other
       (pass (not-true _ g.1.0) (pass (le-ltb 7 m.channel (leb-true m.channel 7 g.1.1.0)) g.1.1.1.0))
@@ -115,7 +101,7 @@ module _ (s : Station) (member : s.own < s.n) (good : list_good s.n s.own s.send
 
   send_proper : (number : ℕ) → Proper (send_head (sight s) number)
   unfolding send_head
-  send_proper number = either Proper _ _ _ (λ e. head_proper number e) (λ e. round_proper number None refl)
+  send_proper number = map_or_either Proper _ (head s) _ (head_proper number) (λ e. round_proper number None refl)
 
   grant_proper : (number priority named : ℕ) → (priority ≡ 0 → ⊥) → named < s.n → (named ≡ s.own → ⊥) → Proper (grant (sight s) number priority named)
   unfolding grant carried

@@ -7,18 +7,19 @@ use native.Mathlib.Omega.{arith}
 use lib.ListN.{get_or, set, length, replicate, length-append, length-replicate, length-set, length-take}
 use lib.Dec.{ltb, leb}
 use borrow.Author.Tests.{ltb-true, le-leb}
+use Rattle.parts.specs.Frames.{flight}
 use Rattle.parts.specs.Choose.{pick}
 use Rattle.parts.specs.Live.{live_at, without}
 use Rattle.parts.specs.Messages.{all, none, blank, pack, pushed, split_by}
-use Rattle.station.specs.Stations.{with_sends, add_up_to}
-use Rattle.station.specs.Strike.{Loss, strike, nothing_gone, give_up_to, give_up_at, give_up_flight, told}
+use Rattle.station.specs.Stations.{with_sends, add_up_to, awaited_of}
+use Rattle.station.specs.Strike.{Loss, strike, nothing_gone, give_up_to, give_up_at, give_up_flight, told, message_at}
 use Rattle.parts.specs.Live.{newly}
 use Rattle.parts.specs.declared.live.Live.{Live}
 use Rattle.parts.specs.declared.list.Message.{Message}
 use Rattle.parts.specs.declared.list.Messages.{Messages}
 use Rattle.std.specs.Prelude.{Option, None, Some}
 use Rattle.station.specs.declared.station.Station.{Station}
-use Rattle.parts.proofs.Laws.Choose.{pick_true, pick_false}
+use Rattle.parts.proofs.Laws.Choose.{pick_true, pick_false, map_or_keeps}
 
 -- what holds of both choices holds of the one picked
 pub pick_either : {A : Type 0} (P : A → Type 0) (b : Bool) (x y : A) → (b ≡ true → P x) → (b ≡ false → P y) → P (pick b x y)
@@ -94,11 +95,11 @@ OnlySends s l = l.station ≡ with_sends s l.station.sends
 
 gives_up_at : (l : Loss) (p : ℕ) → OnlySends l.station (give_up_at l p)
 unfolding give_up_at
-gives_up_at l p = pick_either (OnlySends l.station) _ _ l (λ h. refl) (λ h. refl)
+gives_up_at l p = map_or_keeps (OnlySends l.station) _ (message_at l.station p) l (λ m. refl) refl
 
 pub gives_up_flight : (l : Loss) → (give_up_flight l).station ≡ with_sends l.station (give_up_flight l).station.sends
 unfolding give_up_flight
-gives_up_flight l = pick_either (OnlySends l.station) _ _ l (λ h. gives_up_at l _) (λ h. refl)
+gives_up_flight l = map_or_keeps (OnlySends l.station) _ (flight (awaited_of l.station)) l (λ p. gives_up_at l p) refl
 
 pub roomy_to : (s : Station) (p : ℕ) → Roomy (give_up_to s p).gone
 unfolding give_up_to split_by
@@ -109,11 +110,11 @@ RoomyLoss l = Roomy l.gone
 
 roomy_at : (l : Loss) (p : ℕ) → RoomyLoss l → RoomyLoss (give_up_at l p)
 unfolding give_up_at
-roomy_at l p r = pick_either RoomyLoss _ _ l (λ h. roomy_pushed _ _ r) (λ h. r)
+roomy_at l p r = map_or_keeps RoomyLoss _ (message_at l.station p) l (λ m. roomy_pushed _ _ r) r
 
 pub roomy_flight : (l : Loss) → Roomy l.gone → Roomy (give_up_flight l).gone
 unfolding give_up_flight
-roomy_flight l r = pick_either RoomyLoss _ _ l (λ h. roomy_at l _ r) (λ h. r)
+roomy_flight l r = map_or_keeps RoomyLoss _ (flight (awaited_of l.station)) l (λ p. roomy_at l p r) r
 
 -- ---- the count
 

@@ -4,8 +4,9 @@ use Prim.Native.Nat.{ℕ, ◌≤◌}
 use native.Mathlib.Omega.{arith}
 use lib.Dec.{ltb, eqb}
 use borrow.Author.Tests.{eqb-true, ltb-false}
+use Rattle.parts.proofs.Laws.Choose.{map_or_keeps}
 use Rattle.parts.specs.Moves.{move_of, runs}
-use Rattle.parts.specs.Frames.{number_of, failing_of, Dispatch}
+use Rattle.parts.specs.Frames.{number_of, failing_of, Dispatch, flight}
 use Rattle.station.specs.Stations.{state_of, awaited_of, quiet, answered, moved, unless}
 use Rattle.station.specs.Strike.{Loss, Struck, strike, nothing_gone, give_up_to, stopped}
 use Rattle.parts.specs.Live.{newly}
@@ -38,7 +39,7 @@ same s = record { live_same = refl; count_same = refl }
 
 landed_same : (s : Station) → Same s (landed s)
 unfolding landed
-landed_same s = pick_either (Same s) _ _ s (λ h. record { live_same = refl; count_same = refl }) (λ h. same s)
+landed_same s = map_or_keeps (Same s) _ (flight (awaited_of s)) s (λ p. record { live_same = refl; count_same = refl }) (same s)
 
 acknowledge_same : (s : Station) (from k : ℕ) → Same s (acknowledge s from k)
 unfolding acknowledge

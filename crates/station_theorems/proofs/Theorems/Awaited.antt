@@ -7,13 +7,12 @@ use Prim.Native.Nat.{ℕ, ◌<◌}
 use native.Mathlib.Omega.{arith}
 use borrow.Author.Tests.{ltb-true, ltb-false, leb-true, leb-false, eqb-true, eqb-false, not-true, lt-ltb, le-ltb, le-leb, lt-leb, eq-eqb, ne_eqb}
 use Rattle.parts.specs.Moves.{is_waiting}
-use Rattle.parts.specs.Messages.{all, fits, best, best_of, no_best, the_best}
+use Rattle.parts.specs.Messages.{all, fits, best, best_of}
 use Rattle.parts.specs.Frames.{member_or_nobody, fit, Dispatch}
 use Rattle.wholeness.specs.Whole.{apart, same_message, carried, awaited_good}
 use Rattle.parts.specs.declared.moves.State.{State}
 use Rattle.parts.specs.declared.list.Message.{Message}
 use Rattle.parts.specs.declared.list.Messages.{Messages}
-use Rattle.parts.specs.declared.list.Best.{Best}
 use Rattle.parts.specs.declared.list.Which.TheVariants.{HasPlace}
 use Rattle.std.specs.Prelude.{Option, None, Some}
 use Rattle.std.proofs.lemmas.Option.{none-some}
@@ -67,25 +66,29 @@ carries_is : (l : Messages) (f : Frame) (to : ℕ) → carried l f to ≡ true �
 unfolding carried same_message fits
 carries_is l (Token t) to e = tt
 carries_is l (Transmit t) to e = tt
-carries_is l (Information i) to e =
-    let t = held _ e in
-    let f = (best_is_first (HasPlace i.place) l).first t.0 in
-    record {
-      message = (best (HasPlace i.place) l).message;
-      there = standing f.before f.behind _ (all l) f.stands;
-      same_place = eqb-true _ _ f.fitting;
-      same_other = eqb-true _ _ t.1.0;
-      same_priority = eqb-true _ _ t.1.1.0;
-      same_channel = eqb-true _ _ t.1.1.1.0;
-      same_length = eqb-true _ _ t.1.1.1.1.0;
-    }
+carries_is l (Information i) to e = go (best (HasPlace i.place) l) refl e
+  where
+    go : (b : Option Message) → best (HasPlace i.place) l ≡ b → same_message b to i ≡ true → Carrying l (Information i) to
+    go None q e = absurd (false≢true e)
+    go (Some m) q e =
+        let t = held _ e in
+        let f = (best_is_first (HasPlace i.place) l).first m q in
+        record {
+          message = m;
+          there = standing f.before f.behind _ (all l) f.stands;
+          same_place = eqb-true _ _ f.fitting;
+          same_other = eqb-true _ _ t.0;
+          same_priority = eqb-true _ _ t.1.0;
+          same_channel = eqb-true _ _ t.1.1.0;
+          same_length = eqb-true _ _ t.1.1.1.0;
+        }
 
-same_as : (b : Best) (m : Message) (to : ℕ) (i : InformationFrame) → b ≡ the_best m → m.other ≡ to → m.priority ≡ i.priority → m.channel ≡ i.channel
+same_as : (b : Option Message) (m : Message) (to : ℕ) (i : InformationFrame) → b ≡ Some m → m.other ≡ to → m.priority ≡ i.priority → m.channel ≡ i.channel
     → m.length ≡ i.length → same_message b to i ≡ true
 unfolding same_message
 same_as b m to i e o p c l =
-    ap (λ (x : Best). same_message x to i) e
-    ∙ hold _ (refl, (eq-eqb m.other to o, (eq-eqb m.priority i.priority p, (eq-eqb m.channel i.channel c, (eq-eqb m.length i.length l, tt)))))
+    ap (λ (x : Option Message). same_message x to i) e
+    ∙ hold _ (eq-eqb m.other to o, (eq-eqb m.priority i.priority p, (eq-eqb m.channel i.channel c, (eq-eqb m.length i.length l, tt))))
 
 is_carried : (l : Messages) → apart [] (all l) ≡ true → (f : Frame) (to : ℕ) → Carrying l f to → carried l f to ≡ true
 unfolding carried best
@@ -94,7 +97,7 @@ is_carried l a (Transmit t) to k = refl
 is_carried l a (Information i) to k =
     let w = stood k.there in
     same_as _ k.message to i
-    (ap (λ (p : ℕ). best_of (HasPlace p) (all l) no_best) (sym k.same_place) ∙ best_found (all l) w.0 w.1 k.message a w.2)
+    (ap (λ (p : ℕ). best_of (HasPlace p) (all l) None) (sym k.same_place) ∙ best_found (all l) w.0 w.1 k.message a w.2)
     k.same_other k.same_priority k.same_channel k.same_length
 
 -- ---- the awaited frame

@@ -8,7 +8,6 @@ use borrow.Author.Tests.{eqb-true, eqb-false}
 use Rattle.parts.specs.Choose.{pick}
 use Rattle.parts.specs.Moves.{is_waiting, is_excluded}
 use Rattle.parts.specs.Live.{live_at, successor}
-use Rattle.parts.specs.Frames.{no_flight}
 use Rattle.station.specs.Stations.{state_of, awaited_of, alone, answered, quiet}
 use Rattle.station.specs.Sight.{sight}
 use Rattle.sent.specs.Round.{start_round}
@@ -50,10 +49,10 @@ module _ (s : Station) (k : Sound s) (off : state_of s ≡ Offline) where
   unfolding other_seat
   others = not_alone s.live s.n s.own ring.some_members ring.member all_live.others
 
-  based : Based no_flight s
+  based : Based None s
   unfolding own_seat
   based =
-      based_on s k no_flight (idle_flight (state_of s) s.n s.own s.sends (awaited_of s) (ap is_waiting off) k.awaited) (ap is_excluded off) all_live.itself
+      based_on s k None (idle_flight (state_of s) s.n s.own s.sends (awaited_of s) (ap is_waiting off) k.awaited) (ap is_excluded off) all_live.itself
 
   started_sound : Sound (started s).station
   unfolding started pick

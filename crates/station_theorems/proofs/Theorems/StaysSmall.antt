@@ -6,6 +6,7 @@ use Prim.Native.Nat.{ℕ, ◌<◌}
 use native.Mathlib.Omega.{arith}
 use lib.Dec.{leb, ltb, eqb}
 use borrow.Author.Tests.{eqb-true}
+use Rattle.parts.proofs.Laws.Choose.{map_or_keeps}
 use Rattle.codec.specs.Order.{first_of}
 use Rattle.parts.specs.Choose.{pick}
 use Rattle.parts.specs.Live.{live_at}
@@ -79,9 +80,7 @@ module _ (n limit : ℕ) where
   up_flight_small : (l : Loss) → SmallLoss l → SmallLoss (give_up_flight l)
   unfolding give_up_flight give_up_at
   up_flight_small l h =
-      pick_keeps SmallLoss (flight (awaited_of l.station)).on _ l
-      (pick_keeps SmallLoss (message_at l.station (flight (awaited_of l.station)).place).some _ l (leave_small l.station h _) h)
-      h
+      map_or_keeps SmallLoss _ (flight (awaited_of l.station)) l (λ p. map_or_keeps SmallLoss _ (message_at l.station p) l (λ m. leave_small l.station h p) h) h
 
   told_small : (l : Loss) (w : Option ℕ) → SmallLoss l → SmallStruck (told l w)
   told_small l w h =
@@ -111,7 +110,7 @@ module _ (n limit : ℕ) where
   unfolding acknowledge landed
   acknowledge_small s from k h =
       pick_keeps (Small n limit) (acknowledged s from k) _ s
-      (quiet_small _ Idle (pick_keeps (Small n limit) (flight (awaited_of s)).on _ s (leave_small s h _) h))
+      (quiet_small _ Idle (map_or_keeps (Small n limit) _ (flight (awaited_of s)) s (λ p. leave_small s h p) h))
       h
 
   other_small : (s : Station) (p : ℕ) (w : Option ℕ) → Small n limit s → SmallStruck (strike_other s p w)

@@ -7,7 +7,7 @@ use lib.Dec.{ltb}
 use borrow.Author.Tests.{ltb-true, eqb-false, not-true}
 use Rattle.parts.specs.Choose.{pick}
 use Rattle.parts.specs.Moves.{move_of, runs}
-use Rattle.parts.specs.Frames.{no_flight, flight, fit, Dispatch}
+use Rattle.parts.specs.Frames.{flight, fit, Dispatch}
 use Rattle.station.specs.Stations.{state_of, awaited_of, alone, quiet, more_turn, counted}
 use Rattle.station.specs.Sight.{sight}
 use Rattle.station.specs.Strike.{Loss, Struck, strike, give_up_to}
@@ -48,7 +48,7 @@ again_sound s k h =
 
 -- a station between two turns, on the same ring
 record Settled (s t : Station) : Type 0 where
-  based : Based no_flight t
+  based : Based None t
   same_ring : t.n ≡ s.n
 
 settled : (s : Station) (p : ℕ) → (p ≡ s.own → ⊥) → Based (flight (awaited_of s)) s → Settled s (unanswered s p).station
@@ -57,8 +57,8 @@ settled s p o b =
     let l : Loss = give_up_to (strike s p) p in
     let c = struck_based s (flight (awaited_of s)) b p o refl in
     flight_cases (λ (m : Loss). Settled s (counted m.station m.gone.len)) l (flight (awaited_of s)) refl c.flown
-    (λ off. record { based = counted_based _ no_flight (still_based l.station (flight (awaited_of s)) c off) _; same_ring = refl })
-    (λ on g. record { based = counted_based _ no_flight (left_based l.station (flight (awaited_of s)) c on) _; same_ring = refl })
+    (λ off. record { based = counted_based _ None (still_based l.station (flight (awaited_of s)) c off) _; same_ring = refl })
+    (λ r on g. record { based = counted_based _ None (left_based l.station (flight (awaited_of s)) c r on) _; same_ring = refl })
 
 after_sound : (s : Station) (k : Struck) (to : ℕ) (f : Frame) → Settled s k.station → to < s.n → fit s.n f ≡ true → Sound (after_strike k to f).station
 unfolding after_strike pick

@@ -16,7 +16,7 @@ use Rattle.parts.specs.Moves.{move_of, runs}
 use Rattle.station.specs.Stations.{state_of, awaited_of, answered, moved, unless}
 use Rattle.station.specs.Queue.{new_message, accepted, queue_number, queue_rule}
 use Rattle.parts.specs.declared.moves.Event.TheVariants.{Queue}
-use Rattle.parts.specs.declared.list.Flight.{Flight}
+use Rattle.std.specs.Prelude.{Option, ℕ}
 use Rattle.parts.specs.declared.list.Message.{Message}
 use Rattle.parts.specs.declared.request.Request.{Request}
 use Rattle.station.specs.declared.station.Station.{Station}
@@ -59,7 +59,7 @@ module _ (s : Station) (whole : WholeStation s) (q : Request) where
   unfolding best
   not_flying z = go f.on refl (eqb f.place new.place) refl
     where
-      f : Flight
+      f : Option ℕ
       f = flight (awaited_of s)
 
       free : has_place (all s.sends) (lowest_free (all s.sends)) ≡ false

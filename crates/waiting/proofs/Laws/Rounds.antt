@@ -6,11 +6,9 @@ use native.Mathlib.Omega.{arith}
 use lib.Dec.{eqb}
 use borrow.Author.Tests.{eqb-true, eqb-false}
 use Rattle.parts.specs.Choose.{pick}
-use Rattle.parts.specs.Messages.{the_best}
 use Rattle.sent.specs.Round.{priority_of, opening, granting, start_round, information_of, send_head, grant}
-use Rattle.parts.specs.declared.list.Best.{Best}
 use Rattle.parts.specs.declared.list.Message.{Message}
-use Rattle.std.specs.Prelude.{None, Some}
+use Rattle.std.specs.Prelude.{Option, None, Some}
 use Rattle.parts.specs.declared.frame.Frame.TheVariants.{Token, Transmit}
 use Rattle.parts.specs.Frames.{Dispatch}
 use Rattle.parts.specs.Live.{after}
@@ -23,7 +21,7 @@ use Rattle.bench_theorems.proofs.Laws.Replies.{either}
 use Rattle.waiting.proofs.Laws.Ahead.{Tops, named, to_ask, granted, granted_another, another's, Turns, its_own, another}
 
 -- the message m is on top at s; the station at p, of the head h, composes a frame, of so many that may be
-module _ (n : ℕ) (heads : ℕ → Best) (s : ℕ) (m : Message) (t : Tops n heads s m) (p : ℕ) (place : p < n) (short info number : ℕ) where
+module _ (n : ℕ) (heads : ℕ → Option Message) (s : ℕ) (m : Message) (t : Tops n heads s m) (p : ℕ) (place : p < n) (short info number : ℕ) where
   abbrev Lowers : Dispatch → Type 0
   Lowers = Turns n s m p short info
 
@@ -60,8 +58,8 @@ module _ (n : ℕ) (heads : ℕ → Best) (s : ℕ) (m : Message) (t : Tops n he
       go : (b : Bool) → eqb p s ≡ b → Lowers (pick (heads p).some (information_of number (heads p).message) (start_round (view n p (heads p)) number None))
       go true e =
           let q : p ≡ s = eqb-true p s e in
-          let h : heads p ≡ the_best m = ap heads q ∙ t.own_head in
-          its_own number q (pick_true _ _ (ap (λ (x : Best). x.some) h) ∙ ap (λ (x : Best). information_of number x.message) h)
+          let h : heads p ≡ Some m = ap heads q ∙ t.own_head in
+          its_own number q (pick_true _ _ (ap (λ (x : Option Message). x.some) h) ∙ ap (λ (x : Option Message). information_of number x.message) h)
       go false e =
           let o : p ≡ s → ⊥ = eqb-false p s e in
           let w = enough o in

@@ -7,8 +7,8 @@ use borrow.Author.Tests.{lt-ltb, le-ltb, eq-eqb, ne_eqb}
 use Rattle.parts.specs.Live.{after}
 use Rattle.parts.specs.Frames.{next}
 use Rattle.sent.specs.Round.{priority_of, opening, granting, passing, start_round, information_of, send_head, grant, returned, bid_of, own_bid, cleared, raised, forward, pass_on, on_token, reply}
-use Rattle.parts.specs.declared.list.Best.{Best}
-use Rattle.std.specs.Prelude.{None, Some}
+use Rattle.parts.specs.declared.list.Message.{Message}
+use Rattle.std.specs.Prelude.{Option, None, Some}
 use Rattle.parts.specs.declared.frame.TokenFrame.{TokenFrame}
 use Rattle.parts.specs.declared.frame.TransmitFrame.{TransmitFrame}
 use Rattle.parts.specs.declared.frame.InformationFrame.{InformationFrame}
@@ -25,7 +25,7 @@ bidding t k b = passing k t t.failing b
 abbrev pub numbered : TokenFrame → ℕ → TokenFrame
 numbered t k = bidding t k (bid_of t)
 
-module _ (n : ℕ) (most : n ≤ 64) (p : ℕ) (h : Best) (t : TokenFrame) (master : t.master < n) (name : t.named < n) where
+module _ (n : ℕ) (most : n ≤ 64) (p : ℕ) (h : Option Message) (t : TokenFrame) (master : t.master < n) (name : t.named < n) where
   -- ---- a token on its way
   module _ (other : t.master ≡ p → ⊥) where
     on_way : (b : Bid) → raised (view n p h) (bid_of t) ≡ b → reply (view n p h) (Token t) ≡ Some (Token (bidding t (next t.number) b), after n p)
@@ -58,13 +58,13 @@ module _ (n : ℕ) (most : n ≤ 64) (p : ℕ) (h : Best) (t : TokenFrame) (mast
       (pick_true _ _ (full_live n t.named most name))
 
 -- a transmit token: the head goes
-pub sends_head : (n p : ℕ) (h : Best) (t : TransmitFrame) → h.some ≡ true
+pub sends_head : (n p : ℕ) (h : Option Message) (t : TransmitFrame) → h.some ≡ true
     → reply (view n p h) (Transmit t) ≡ information_of (next t.number) h.message
 unfolding reply send_head
 sends_head n p h t e = pick_true _ _ e
 
 -- information: a round starts
-pub starts_round : (n p : ℕ) (h : Best) (i : InformationFrame)
+pub starts_round : (n p : ℕ) (h : Option Message) (i : InformationFrame)
     → reply (view n p h) (Information i) ≡ Some (Token (opening p (priority_of h) (next i.number) None), after n p)
 unfolding reply start_round
 starts_round n p h i = refl

@@ -10,8 +10,7 @@ use Rattle.parts.specs.Live.{after}
 use Rattle.parts.specs.Frames.{next}
 use Rattle.sent.specs.Round.{priority_of, opening, carrying, granting, information_of, reply}
 use Rattle.parts.specs.declared.list.Message.{Message}
-use Rattle.parts.specs.declared.list.Best.{Best}
-use Rattle.std.specs.Prelude.{None, Some}
+use Rattle.std.specs.Prelude.{Option, None, Some}
 use Rattle.parts.specs.declared.frame.TransmitFrame.{TransmitFrame}
 use Rattle.parts.specs.declared.frame.Frame.TheVariants.{Token, Transmit, Information}
 use Rattle.parts.proofs.Laws.Live.{after_inside, after_last}
@@ -29,7 +28,7 @@ use Rattle.waiting.proofs.Laws.TightLoad.{its, foreign, spot, load, load_first, 
 sends_one : (n p : ℕ) (t : TransmitFrame) (ms : List Message) (z : Message) → ms ≡ z ∷ [] → reply (view n p (top ms)) (Transmit t) ≡ information_of (next t.number) z
 sends_one n p t ms z e =
     let best : top ms ≡ record { some = true; message = z } = ap top e ∙ top_one z in
-    sends_head n p (top ms) t (ap (λ (b : Best). b.some) best) ∙ ap (λ (b : Best). information_of (next t.number) b.message) best
+    sends_head n p (top ms) t (ap (λ (b : Option Message). b.some) best) ∙ ap (λ (b : Option Message). information_of (next t.number) b.message) best
 
 module _ (n : ℕ) (three : 3 ≤ n) (most : n ≤ 64) where
   both_below : Below spot 9 n (load n (foreign ∷ []))

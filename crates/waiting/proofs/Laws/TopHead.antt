@@ -10,12 +10,11 @@ use lib.Dec.{eqb}
 use borrow.Author.Tests.{eqb-true, eqb-false, not-true}
 use Rattle.parts.specs.Choose.{pick}
 use Rattle.parts.specs.Frames.{flight}
-use Rattle.parts.specs.Messages.{all, flies, fits, no_best, the_best, best_of}
+use Rattle.parts.specs.Messages.{all, flies, fits, best_of}
+use Rattle.std.specs.Prelude.{Option, None, Some}
 use Rattle.sent.specs.Round.{priority_of}
 use Rattle.station.specs.Stations.{awaited_of, head}
 use Rattle.wholeness.specs.Whole.{apart, message_good}
-use Rattle.parts.specs.declared.list.Best.{Best}
-use Rattle.parts.specs.declared.list.Flight.{Flight}
 use Rattle.parts.specs.declared.list.Message.{Message}
 use Rattle.parts.specs.declared.list.Which.{Which}
 use Rattle.parts.specs.declared.list.Which.TheVariants.{AnyWaiting, HasPlace}
@@ -41,8 +40,8 @@ pub one_place : (ms : List Message) → apart [] ms ≡ true → (x y : Message)
 one_place ms a x y h i e =
     let u = stood h in
     let v = stood i in
-    ap (λ (b : Best). b.message)
-    (sym (best_found ms u.0 u.1 x a u.2) ∙ ap (λ (p : ℕ). best_of (HasPlace p) ms no_best) e ∙ best_found ms v.0 v.1 y a v.2)
+    ap (λ (b : Option Message). b.message)
+    (sym (best_found ms u.0 u.1 x a u.2) ∙ ap (λ (p : ℕ). best_of (HasPlace p) ms None) e ∙ best_found ms v.0 v.1 y a v.2)
 
 none_higher : (w : Which) (ms : List Message) (m : Message) → First w ms m → (x : Message) → Memᴰ x ms → fits w x ≡ true → x.priority ≤ m.priority
 none_higher w ms m f x h t = go (Memᴰ.append_cases f.before (subst (Memᴰ x) f.stands h))
@@ -57,11 +56,11 @@ none_higher w ms m f x h t = go (Memᴰ.append_cases f.before (subst (Memᴰ x) 
 
 -- ---- a station
 
-waiting_fits : (f : Flight) (m : Message) → flies f m ≡ false → fits (AnyWaiting f) m ≡ true
+waiting_fits : (f : Option ℕ) (m : Message) → flies f m ≡ false → fits (AnyWaiting f) m ≡ true
 unfolding fits
 waiting_fits f m e = ap not e
 
-fits_waiting : (f : Flight) (m : Message) → fits (AnyWaiting f) m ≡ true → flies f m ≡ false
+fits_waiting : (f : Option ℕ) (m : Message) → fits (AnyWaiting f) m ≡ true → flies f m ≡ false
 unfolding fits
 fits_waiting f m e = not-true _ e
 
@@ -104,7 +103,7 @@ module _ {limit : ℕ} (b : Bench) (q : Quiet limit b) (x : Spot) (m : Message) 
   some : 1 ≤ m.priority
   some = listed_priority (station_at b x.station) (q.picture.members x.station member).whole m w.listed
 
-  own_is : head (station_at b x.station) ≡ the_best m
+  own_is : head (station_at b x.station) ≡ Some m
   own_is = go (eqb h.place x.place) refl
     where
       s : Station
@@ -116,7 +115,7 @@ module _ {limit : ℕ} (b : Bench) (q : Quiet limit b) (x : Spot) (m : Message) 
       has : (head s).some ≡ true
       has = (waiting_head b x.station m w).0
 
-      go : (t : Bool) → eqb h.place x.place ≡ t → head s ≡ the_best m
+      go : (t : Bool) → eqb h.place x.place ≡ t → head s ≡ Some m
       go true e =
           let k = whole_sound s (q.picture.members x.station member).whole in
           let same : h ≡ m =

@@ -8,14 +8,13 @@ use native.Mathlib.Omega.{arith}
 use borrow.Author.Tests.{eqb-true, eqb-false, not-false}
 use lib.Dec.{eqb}
 use lib.ListN.{length}
-use Rattle.parts.specs.Messages.{all, best_of, no_best, the_best}
+use Rattle.parts.specs.Messages.{all, best_of}
 use Rattle.parts.specs.Moves.{move_of}
 use Rattle.parts.specs.declared.moves.State.{State}
 use Rattle.parts.specs.declared.moves.State.TheVariants.{Offline, Idle, Waiting, Alone, Excluded}
 use Rattle.parts.specs.declared.moves.Event.TheVariants.{Queue}
 use Rattle.parts.specs.declared.list.Message.{Message}
 use Rattle.parts.specs.declared.list.Messages.{Messages}
-use Rattle.parts.specs.declared.list.Best.{Best}
 use Rattle.parts.specs.declared.list.Which.TheVariants.{HasPlace}
 use Rattle.parts.specs.declared.request.Request.{Request}
 use Rattle.parts.specs.declared.frame.InformationFrame.{InformationFrame}
@@ -23,7 +22,7 @@ use Rattle.parts.specs.declared.frame.Frame.TheVariants.{Information}
 use Rattle.station.specs.Stations.{state_of, answered, moved, unless}
 use Rattle.station.specs.Queue.{new_message, queue_number, accepted, queue_rule}
 use Rattle.station.specs.declared.station.Station.{Station}
-use Rattle.std.specs.Prelude.{Some}
+use Rattle.std.specs.Prelude.{Option, None, Some}
 use Rattle.station.specs.declared.station.Answer.{Answer}
 use Rattle.wholeness.specs.Whole.{apart}
 use Rattle.station_theorems.proofs.Laws.Carried.{best_found}
@@ -97,9 +96,9 @@ same_place : (l : Messages) → apart [] (all l) ≡ true → (m c : Message) �
 same_place l a m c h k e =
     let u = stood h in
     let v = stood k in
-    let x : best_of (HasPlace m.place) (all l) no_best ≡ the_best m = best_found (all l) u.0 u.1 m a u.2 in
-    let y : best_of (HasPlace c.place) (all l) no_best ≡ the_best c = best_found (all l) v.0 v.1 c a v.2 in
-    ap (λ (b : Best). b.message) (sym y ∙ ap (λ (n : ℕ). best_of (HasPlace n) (all l) no_best) e ∙ x)
+    let x : best_of (HasPlace m.place) (all l) None ≡ Some m = best_found (all l) u.0 u.1 m a u.2 in
+    let y : best_of (HasPlace c.place) (all l) None ≡ Some c = best_found (all l) v.0 v.1 c a v.2 in
+    ap (λ (b : Option Message). b.message) (sym y ∙ ap (λ (n : ℕ). best_of (HasPlace n) (all l) None) e ∙ x)
 
 pub carries_message : {rec store : List ℕ} {i : InformationFrame} {to : ℕ} {rec' out' told' : List ℕ} → Held rec
     → Sends rec store (Information i) to rec' out' told' → (m : Message) → ToSend m rec' → m.place ≡ i.place → CarriesMessage store i to m
