@@ -3,6 +3,7 @@ use mathlib.Core.Path.{◌≡◌, refl, sym, ap, ◌∙◌}
 use mathlib.Core.Bool.{Bool, true, false}
 use Prim.Native.Nat.{ℕ}
 use lib.Dec.{leb, eqb}
+use Rattle.std.specs.Option.{option_map_or}
 use Rattle.parts.specs.Choose.{pick}
 use Rattle.parts.specs.Messages.{pushed}
 use Rattle.parts.specs.Frames.{number_of, failing_of, flight}
@@ -53,7 +54,11 @@ fresh_answer a = record { station = fresh a.station; number = a.number; sent = a
 
 fresh_landed : (s : Station) → landed (fresh s) ≡ fresh (landed s)
 unfolding landed
-fresh_landed s = sym (pick_through fresh (flight (awaited_of s)).on (leave s (flight (awaited_of s)).place) s)
+fresh_landed s = go (flight (awaited_of s))
+  where
+    go : (f : Option ℕ) → option_map_or (leave (fresh s)) f (fresh s) ≡ fresh (option_map_or (leave s) f s)
+    go None = refl
+    go (Some p) = refl
 
 pub fresh_acknowledge : (s : Station) (from k : ℕ) → acknowledge (fresh s) from k ≡ fresh (acknowledge s from k)
 unfolding acknowledge acknowledged
@@ -69,13 +74,22 @@ fresh_up_to s p = refl
 
 fresh_up_at : (l : Loss) (p : ℕ) → give_up_at (fresh_loss l) p ≡ fresh_loss (give_up_at l p)
 unfolding give_up_at
-fresh_up_at l p = sym (pick_through fresh_loss (message_at l.station p).some (record { station = leave l.station p; gone = pushed l.gone (message_at l.station p).message }) l)
+fresh_up_at l p = go (message_at l.station p)
+  where
+    up : Loss → Message → Loss
+    up k m = record { station = leave k.station p; gone = pushed k.gone m }
+
+    go : (b : Option Message) → option_map_or (up (fresh_loss l)) b (fresh_loss l) ≡ fresh_loss (option_map_or (up l) b l)
+    go None = refl
+    go (Some m) = refl
 
 fresh_up_flight : (l : Loss) → give_up_flight (fresh_loss l) ≡ fresh_loss (give_up_flight l)
 unfolding give_up_flight
-fresh_up_flight l =
-    both_ways (flight (awaited_of l.station)).on (fresh_up_at l (flight (awaited_of l.station)).place) refl
-    ∙ sym (pick_through fresh_loss (flight (awaited_of l.station)).on (give_up_at l (flight (awaited_of l.station)).place) l)
+fresh_up_flight l = go (flight (awaited_of l.station))
+  where
+    go : (f : Option ℕ) → option_map_or (give_up_at (fresh_loss l)) f (fresh_loss l) ≡ fresh_loss (option_map_or (give_up_at l) f l)
+    go None = refl
+    go (Some p) = fresh_up_at l p
 
 fresh_stopped : (l : Loss) (w : Option ℕ) (st : State) → stopped (fresh_loss l) w st ≡ fresh_struck (stopped l w st)
 fresh_stopped l w st =

@@ -5,6 +5,7 @@ use mathlib.Core.List.{List, [], ◌∷◌}
 use Prim.Native.Nat.{ℕ}
 use lib.Dec.{eqb}
 use borrow.Author.Tests.{eqb-true, eqb-false, eq-eqb, ne_eqb}
+use Rattle.std.specs.Option.{option_map_or}
 use Rattle.parts.specs.Choose.{pick}
 use Rattle.parts.specs.Messages.{all, fits, only, split_by, better_of, best_of, best}
 use Rattle.parts.specs.Frames.{flight, Dispatch}
@@ -27,10 +28,6 @@ use Rattle.station_theorems.proofs.Laws.Based.{idle_flight}
 use Rattle.station_theorems.proofs.Laws.Sound.{whole_sound}
 use Rattle.bench_theorems.proofs.Laws.Listening.{Listens, idle, waits, acknowledged_by, idle_stays}
 
--- the message at the place p is in flight
-abbrev flown : ℕ → Option ℕ
-flown p = record { on = true; place = p }
-
 abbrev others : ℕ → Message → Bool
 others p m = not (fits (HasPlace p) m)
 
@@ -43,7 +40,7 @@ free_fits : (m : Message) → fits (AnyWaiting None) m ≡ true
 unfolding fits
 free_fits m = refl
 
-flown_fits : (p : ℕ) (m : Message) (t : Bool) → eqb m.place p ≡ t → fits (AnyWaiting (flown p)) m ≡ not t
+flown_fits : (p : ℕ) (m : Message) (t : Bool) → eqb m.place p ≡ t → fits (AnyWaiting (Some p)) m ≡ not t
 unfolding fits
 flown_fits p m true e = let q : m.place ≡ p = eqb-true m.place p e in ap not (eq-eqb p m.place (sym q))
 flown_fits p m false e = ap not (ne_eqb p m.place (λ q. eqb-false m.place p e (sym q)))
@@ -53,16 +50,16 @@ unfolding fits
 other_fits p m t e = ap not e
 
 -- the best of those that are left is the best of those that waited
-best_left : (p : ℕ) (ms : List Message) (b : Option Message) → best_of (AnyWaiting None) (only (others p) ms) b ≡ best_of (AnyWaiting (flown p)) ms b
+best_left : (p : ℕ) (ms : List Message) (b : Option Message) → best_of (AnyWaiting None) (only (others p) ms) b ≡ best_of (AnyWaiting (Some p)) ms b
 best_left p [] b =
-    ap (λ (l : List Message). best_of (AnyWaiting None) l b) (only_none (others p)) ∙ best_none (AnyWaiting None) b ∙ sym (best_none (AnyWaiting (flown p)) b)
+    ap (λ (l : List Message). best_of (AnyWaiting None) l b) (only_none (others p)) ∙ best_none (AnyWaiting None) b ∙ sym (best_none (AnyWaiting (Some p)) b)
 best_left p (m ∷ ms) b = go (eqb m.place p) refl (λ c. best_left p ms c)
   where
     v : Which
     v = AnyWaiting None
 
     w : Which
-    w = AnyWaiting (flown p)
+    w = AnyWaiting (Some p)
 
     go : (t : Bool) → eqb m.place p ≡ t → ((c : Option Message) → best_of v (only (others p) ms) c ≡ best_of w ms c) → best_of v (only (others p) (m ∷ ms)) b ≡ best_of w (m ∷ ms) b
     go true e rest =
@@ -80,28 +77,13 @@ left_all : (s : Station) (p : ℕ) → all (leave s p).sends ≡ only (others p)
 unfolding split_by
 left_all s p = pack_all (only (others p) (all s.sends))
 
-no_flight_lem : (d : Dispatch) → (flight d).on ≡ false → flight d ≡ None
-no_flight_lem None e = refl
-no_flight_lem (Some (Token t, to)) e = refl
-no_flight_lem (Some (Transmit t, to)) e = refl
-no_flight_lem (Some (Information i, to)) e = absurd (false≢true (sym e))
-
-a_flight : (f : Option ℕ) → f.on ≡ true → f ≡ flown f.place
-a_flight f e = ap (λ (t : Bool). let r : (Option ℕ) = record { on = t; place = f.place } in r) e
-
 pub head_landed : (s : Station) → head (quiet (landed s) Idle) ≡ head s
-unfolding head landed best pick
-head_landed s = go (flight (awaited_of s)).on refl
+unfolding head landed best
+head_landed s = go (flight (awaited_of s))
   where
-    f : Option ℕ
-    f = flight (awaited_of s)
-
-    go : (t : Bool) → f.on ≡ t → best (AnyWaiting None) (quiet (pick t (leave s f.place) s) Idle).sends ≡ best (AnyWaiting f) s.sends
-    go true e =
-        ap (λ (l : List Message). best_of (AnyWaiting None) l None) (left_all s f.place)
-        ∙ best_left f.place (all s.sends) None
-        ∙ ap (λ (g : Option ℕ). best_of (AnyWaiting g) (all s.sends) None) (sym (a_flight f e))
-    go false e = ap (λ (g : Option ℕ). best (AnyWaiting g) s.sends) (sym (no_flight_lem (awaited_of s) e))
+    go : (f : Option ℕ) → best (AnyWaiting None) (quiet (option_map_or (leave s) f s) Idle).sends ≡ best (AnyWaiting f) s.sends
+    go None = refl
+    go (Some p) = ap (λ (l : List Message). best_of (AnyWaiting None) l None) (left_all s p) ∙ best_left p (all s.sends) None
 
 pub head_acknowledged : {from k : ℕ} {s : Station} → Listens from k s → head (acknowledge s from k) ≡ head s
 head_acknowledged {from} {k} {s} (idle i) = ap head (idle_stays s from k i)

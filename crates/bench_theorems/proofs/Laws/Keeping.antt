@@ -34,14 +34,13 @@ use Rattle.bench_theorems.specs.Quiet.{head_priority}
 
 better_rises : (w : Which) (b : Option Message) (m : Message) → priority_of b ≤ priority_of (better_of w b m)
 unfolding better_of pick
-better_rises w b m = go (fits w m) b.some refl (ltb b.message.priority m.priority) refl
+better_rises w None m = omega arith
+better_rises w (Some c) m = go (fits w m) (ltb c.priority m.priority) refl
   where
-    go : (t u : Bool) → b.some ≡ u → (v : Bool) → ltb b.message.priority m.priority ≡ v
-        → pick u b.message.priority 0 ≤ priority_of (pick t (pick u (pick v (Some m) b) (Some m)) b)
-    go false u e v d = rw e (omega arith)
-    go true false e v d = omega arith
-    go true true e true d = let h : b.message.priority < m.priority = ltb-true _ _ d in omega arith
-    go true true e false d = rw e (omega arith)
+    go : (t v : Bool) → ltb c.priority m.priority ≡ v → c.priority ≤ priority_of (pick t (pick v (Some m) (Some c)) (Some c))
+    go false v d = omega arith
+    go true true d = let h : c.priority < m.priority = ltb-true _ _ d in omega arith
+    go true false d = omega arith
 
 -- ---- the station
 

@@ -15,7 +15,7 @@ use Rattle.parts.specs.declared.moves.Event.TheVariants.{Heard}
 use Rattle.parts.specs.declared.frame.Frame.{Frame}
 use Rattle.std.specs.Prelude.{Some}
 use Rattle.station.specs.declared.station.Station.{Station}
-use Rattle.parts.proofs.Laws.Choose.{pick_true}
+use Rattle.parts.proofs.Laws.Choose.{pick_true, map_or_keeps}
 use Rattle.bench.proofs.Laws.StandsBy.{unacknowledged}
 
 -- Idle, or acknowledged by a frame from `from` with the number k
@@ -50,12 +50,11 @@ unfolding acknowledge
 acknowledged_by s from k e = pick_true _ _ e
 
 landed_seat : (s : Station) → SameSeat s (quiet (landed s) Idle)
-unfolding landed pick
-landed_seat s = go (flight (awaited_of s)).on
-  where
-    go : (b : Bool) → SameSeat s (quiet (pick b (leave s (flight (awaited_of s)).place) s) Idle)
-    go true = record { same_n = refl; same_limit = refl; same_own = refl; same_live = refl; same_handled = refl }
-    go false = record { same_n = refl; same_limit = refl; same_own = refl; same_live = refl; same_handled = refl }
+unfolding landed
+landed_seat s =
+    map_or_keeps (λ (t : Station). SameSeat s (quiet t Idle)) (leave s) (flight (awaited_of s)) s
+    (λ p. record { same_n = refl; same_limit = refl; same_own = refl; same_live = refl; same_handled = refl })
+    (record { same_n = refl; same_limit = refl; same_own = refl; same_live = refl; same_handled = refl })
 
 pub idle_stays : (s : Station) (from k : ℕ) → state_of s ≡ Idle → acknowledge s from k ≡ s
 idle_stays s from k i = unacknowledged s from k (ap is_waiting i)

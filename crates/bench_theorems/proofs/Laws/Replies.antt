@@ -5,6 +5,7 @@ use Prim.Native.Nat.{ℕ, ◌+◌, ◌<◌, ◌≤◌}
 use native.Mathlib.Omega.{arith}
 use lib.Dec.{eqb}
 use borrow.Author.Tests.{eqb-true, eqb-false}
+use Rattle.parts.proofs.Laws.Choose.{map_or_keeps}
 use Rattle.parts.specs.Choose.{pick}
 use Rattle.parts.specs.Live.{after}
 use Rattle.parts.specs.Frames.{number_of, next, Dispatch}
@@ -73,4 +74,4 @@ module _ (n p : ℕ) (place : p < n) (h : Option Message) (from : ℕ) (f : Fram
   pub send_replied : ((q : ℕ) → longest n from f q ≤ n + 1) → Replied n from f p h (send_head (view n p h) (next (number_of f)))
   unfolding send_head
   send_replied few =
-      either (Replied n from f p h) _ _ _ (λ e. information_replied few h.message) (λ e. round_replied (λ q. omega (arith, few q)))
+      map_or_keeps (Replied n from f p h) _ h _ (information_replied few) (round_replied (λ q. omega (arith, few q)))

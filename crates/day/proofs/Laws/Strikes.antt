@@ -13,7 +13,7 @@ use Rattle.std.specs.Prelude.{Option, None, Some}
 use Rattle.parts.specs.declared.live.Live.{Live}
 use Rattle.parts.specs.declared.moves.Event.TheVariants.{Heard}
 use Rattle.parts.specs.declared.moves.State.TheVariants.{Idle, Alone, Excluded}
-use Rattle.parts.proofs.Laws.Choose.{pick_true, pick_false}
+use Rattle.parts.proofs.Laws.Choose.{pick_true, pick_false, map_or_keeps}
 use Rattle.parts.specs.Live.{newly}
 use Rattle.station.specs.Stations.{state_of, awaited_of, quiet, alone, answered, moved, unless}
 use Rattle.station.specs.Strike.{Struck, strike, leave, nothing_gone, give_up_to, told, stopped}
@@ -50,7 +50,7 @@ acknowledged_live : (s : Station) (from k : ℕ) → (acknowledge s from k).live
 unfolding acknowledge landed
 acknowledged_live s from k =
     live_either (acknowledged s from k) (quiet (landed s) Idle) s s.live
-    (live_either (flight (awaited_of s)).on (leave s (flight (awaited_of s)).place) s s.live refl refl)
+    (map_or_keeps (λ (t : Station). t.live ≡ s.live) (leave s) (flight (awaited_of s)) s (λ p. refl) refl)
     refl
 
 failed_struck : (s : Station) (w : Option ℕ) → (failed s w).struck ≡ newly_of s.live w

@@ -6,13 +6,14 @@ use Prim.Native.Nat.{ℕ}
 use native.Mathlib.Omega.{arith}
 use lib.Dec.{ltb, leb, eqb}
 use lib.ListN.{length}
+use Rattle.std.specs.Option.{option_map_or}
 use Rattle.packet_codec.specs.Packet.{read_packet, read_number}
 use Rattle.packet_codec.specs.declared.reading.Refusal.TheVariants.{Size, Identifier, BadAt}
 use Rattle.packet_codec.specs.declared.reading.Read.{Read}
 use Rattle.packet_codec.specs.declared.reading.Read.TheVariants.{Refused, Good}
 use Rattle.parts.specs.declared.request.Request.{Request}
 use Rattle.parts.specs.Frames.{Dispatch}
-use Rattle.std.specs.Prelude.{Option, None, Some}
+use Rattle.std.specs.Prelude.{Option, None, Some, is_none}
 use Rattle.parts.specs.declared.list.Message.{Message}
 use Rattle.station.specs.Stations.{awaited_of, alone}
 use Rattle.station.specs.Start.{started, start_rule}
@@ -99,7 +100,7 @@ take_refusal_other channel b room =
     let c : Other 17 = λ q. omega (arith, q) in
     let d : Other 20 = λ q. omega (arith, q) in
     let e : Other 21 = λ q. omega (arith, q) in
-    let ts : List (Bool × ℕ) = (ltb 7 channel, 17) ∷ (not b.some, 20) ∷ (ltb room b.message.length, 21) ∷ [] in
+    let ts : List (Bool × ℕ) = (ltb 7 channel, 17) ∷ (is_none b, 20) ∷ (option_map_or (λ (m : Message). ltb room m.length) b false, 21) ∷ [] in
     first_gives Other 0 ts not_0 (c, (d, (e, tt)))
 
 take_other : (s : Station) (channel room : ℕ) → Gives Other (take_rule s channel room)

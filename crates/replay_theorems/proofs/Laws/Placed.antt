@@ -5,6 +5,7 @@ use mathlib.Core.Bool.{true, not}
 use Prim.Native.Nat.{ℕ}
 use lib.Dec.{ltb, leb, eqb}
 use borrow.Author.Tests.{ne_eqb}
+use Rattle.parts.proofs.Laws.Choose.{map_or_keeps}
 use Rattle.parts.specs.Frames.{number_of, failing_of, flight, Dispatch}
 use Rattle.station.specs.Strike.{Loss, Struck, strike, nothing_gone, give_up_to, give_up_at, give_up_flight, message_at, stopped}
 use Rattle.station.specs.Stations.{awaited_of, alone, answered, moved, unless}
@@ -42,9 +43,8 @@ unfolding give_up_flight give_up_at
 flight_seat l =
     let here : Loss → Type 0 = λ (m : Loss). Seat l.station m.station in
     let left : Seat l.station l.station = same_seat l.station in
-    pick_keeps here (flight (awaited_of l.station)).on _ l
-    (pick_keeps here (message_at l.station (flight (awaited_of l.station)).place).some _ l
-    (record { same_n = refl; same_limit = refl; same_own = refl }) left)
+    map_or_keeps here _ (flight (awaited_of l.station)) l
+    (λ p. map_or_keeps here _ (message_at l.station p) l (λ m. record { same_n = refl; same_limit = refl; same_own = refl }) left)
     left
 
 up_to_seat : (s : Station) (p q : ℕ) → Seat s (give_up_to (strike s p) q).station
@@ -60,7 +60,7 @@ acknowledge_seat : (s : Station) (from k : ℕ) → Seat s (acknowledge s from k
 unfolding acknowledge landed
 acknowledge_seat s from k =
     let h : Seat s (landed s) =
-    pick_keeps (Seat s) (flight (awaited_of s)).on _ s (record { same_n = refl; same_limit = refl; same_own = refl }) (same_seat s) in
+    map_or_keeps (Seat s) _ (flight (awaited_of s)) s (λ p. record { same_n = refl; same_limit = refl; same_own = refl }) (same_seat s) in
     pick_keeps (Seat s) (acknowledged s from k) _ s
     (record { same_n = h.same_n; same_limit = h.same_limit; same_own = h.same_own })
     (same_seat s)

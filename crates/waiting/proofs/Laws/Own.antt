@@ -15,7 +15,7 @@ use Rattle.bench.specs.Delivery.{step}
 use Rattle.bench.specs.Rows.{rows_on}
 use Rattle.bench.specs.Runs.{Event, stepped}
 use Rattle.bench.specs.declared.ring.Bench.{Bench}
-use Rattle.waiting.specs.Waiting.{Spot, own, before, goes}
+use Rattle.waiting.specs.Waiting.{Spot, own, before, goes, is_at}
 
 -- ---- whose the frame on the wire is
 
@@ -28,8 +28,8 @@ pub own_not : (x : Spot) (p : ℕ) (f : Frame) (to : ℕ) → (p ≡ x.station �
 unfolding own
 own_not x p f to w = go (eqb p x.station) refl
   where
-    go : (t : Bool) → eqb p x.station ≡ t → (t && ((flight_in f).on && eqb (flight_in f).place x.place)) ≡ false
-    go true e = ap (λ (l : Option ℕ). l.on && eqb l.place x.place) (w (eqb-true p x.station e))
+    go : (t : Bool) → eqb p x.station ≡ t → (t && is_at (flight_in f) x.place) ≡ false
+    go true e = ap (λ (l : Option ℕ). is_at l x.place) (w (eqb-true p x.station e))
     go false e = refl
 
 -- ---- a step that composes it, and one that does not

@@ -5,6 +5,7 @@ use Prim.Native.Nat.{ℕ, ◌+◌, ◌<◌, ◌≤◌}
 use native.Mathlib.Omega.{arith}
 use lib.Dec.{eqb}
 use borrow.Author.Tests.{eqb-true, eqb-false}
+use Rattle.std.specs.Option.{option_map_or}
 use Rattle.parts.specs.Choose.{pick}
 use Rattle.sent.specs.Round.{priority_of, opening, granting, start_round, information_of, send_head, grant}
 use Rattle.parts.specs.declared.list.Message.{Message}
@@ -12,7 +13,7 @@ use Rattle.std.specs.Prelude.{Option, None, Some}
 use Rattle.parts.specs.declared.frame.Frame.TheVariants.{Token, Transmit}
 use Rattle.parts.specs.Frames.{Dispatch}
 use Rattle.parts.specs.Live.{after}
-use Rattle.parts.proofs.Laws.Choose.{pick_true}
+use Rattle.parts.proofs.Laws.Choose.{pick_true, map_or_keeps}
 use Rattle.bench_theorems.specs.Quiet.{offset}
 use Rattle.bench_theorems.proofs.Laws.Offset.{offset_own, offset_same}
 use Rattle.bench_theorems.proofs.Laws.FullSet.{full_live}
@@ -55,20 +56,20 @@ module _ (n : ℕ) (heads : ℕ → Option Message) (s : ℕ) (m : Message) (t :
   unfolding send_head
   send_turns enough = go (eqb p s) refl
     where
-      go : (b : Bool) → eqb p s ≡ b → Lowers (pick (heads p).some (information_of number (heads p).message) (start_round (view n p (heads p)) number None))
+      go : (b : Bool) → eqb p s ≡ b → Lowers (option_map_or (information_of number) (heads p) (start_round (view n p (heads p)) number None))
       go true e =
           let q : p ≡ s = eqb-true p s e in
           let h : heads p ≡ Some m = ap heads q ∙ t.own_head in
-          its_own number q (pick_true _ _ (ap (λ (x : Option Message). x.some) h) ∙ ap (λ (x : Option Message). information_of number x.message) h)
+          its_own number q (ap (λ (x : Option Message). option_map_or (information_of number) x (start_round (view n p (heads p)) number None)) h)
       go false e =
           let o : p ≡ s → ⊥ = eqb-false p s e in
           let w = enough o in
-          either Lowers _ _ _
+          map_or_keeps Lowers _ (heads p) _
           (λ x.
           another _ _ refl (λ q. absurd (o q)) _ _
           (another's _)
           (omega arith) (omega arith))
-          (λ x. round_turns w.0)
+          (round_turns w.0)
 
   -- a transmit token
   pub grant_turns : (priority name : ℕ) → n ≤ 64 → name < n → 1 ≤ short → ((name ≡ s → ⊥) → (n + 2 ≤ short) × (1 ≤ info))

@@ -4,6 +4,7 @@ use mathlib.Core.Path.{◌≡◌, refl, ap, ◌∙◌}
 use mathlib.Core.Bool.{true}
 use Prim.Native.Nat.{ℕ, ◌<◌, ◌≤◌}
 use borrow.Author.Tests.{lt-ltb, le-ltb, eq-eqb, ne_eqb}
+use Rattle.std.specs.Option.{option_map_or}
 use Rattle.parts.specs.Live.{after}
 use Rattle.parts.specs.Frames.{next}
 use Rattle.sent.specs.Round.{priority_of, opening, granting, passing, start_round, information_of, send_head, grant, returned, bid_of, own_bid, cleared, raised, forward, pass_on, on_token, reply}
@@ -58,10 +59,11 @@ module _ (n : ℕ) (most : n ≤ 64) (p : ℕ) (h : Option Message) (t : TokenFr
       (pick_true _ _ (full_live n t.named most name))
 
 -- a transmit token: the head goes
-pub sends_head : (n p : ℕ) (h : Option Message) (t : TransmitFrame) → h.some ≡ true
-    → reply (view n p h) (Transmit t) ≡ information_of (next t.number) h.message
+pub sends_head : (n p : ℕ) (h : Option Message) (m : Message) (t : TransmitFrame) → h ≡ Some m
+    → reply (view n p h) (Transmit t) ≡ information_of (next t.number) m
 unfolding reply send_head
-sends_head n p h t e = pick_true _ _ e
+sends_head n p h m t e =
+    ap (λ (b : Option Message). option_map_or (information_of (next t.number)) b (start_round (view n p h) (next t.number) None)) e
 
 -- information: a round starts
 pub starts_round : (n p : ℕ) (h : Option Message) (i : InformationFrame)

@@ -12,7 +12,7 @@ use Rattle.station.specs.Stations.{head}
 use Rattle.sent.specs.Round.{reply}
 use Rattle.parts.specs.declared.list.Message.{Message}
 use Rattle.parts.specs.declared.frame.Frame.{Frame}
-use Rattle.std.specs.Prelude.{Some}
+use Rattle.std.specs.Prelude.{Some, None}
 use Rattle.parts.proofs.Laws.Frames.{same_frame, same_to}
 use Rattle.bench.specs.Ring.{station_at}
 use Rattle.bench.specs.Delivery.{deliver_to, step}
@@ -92,5 +92,5 @@ module _ {n : ℕ} {load : ℕ → List Message} {from : ℕ} {f : Frame} {to : 
           others_wait b r.quiet p (omega (arith, r.same_n)) (λ z. y (z ∙ to_is)) ∙ r.loads p h ∙ sym (there p h y)
 
   -- a reply that carries none changes nobody's
-  pub runs_on : (g : Frame) (q : ℕ) → (flight_in g).on ≡ false → reply (view n to (top (load to))) f ≡ Some (g, q) → Runs n load to g q (step b)
+  pub runs_on : (g : Frame) (q : ℕ) → flight_in g ≡ None → reply (view n to (top (load to))) f ≡ Some (g, q) → Runs n load to g q (step b)
   runs_on g q z e = runs_step load g q e (sym (resting_all (flight_in g) z (load to))) (λ p h o. refl)

@@ -27,7 +27,7 @@ use Rattle.waiting.proofs.Laws.RunWaiting.{resting, waiting, resting_all, acknow
 -- with none in flight all of the list wait
 all_waits : (s : Station) → flight (awaited_of s) ≡ None → all s.sends ≡ waiting s
 unfolding waiting
-all_waits s e = sym (resting_all (flight (awaited_of s)) (ap (λ (f : Option ℕ). f.on) e) (all s.sends))
+all_waits s e = sym (resting_all (flight (awaited_of s)) e (all s.sends))
 
 module _ {n limit : ℕ} {at : ℕ → Station} {from : ℕ} {f : Frame} {to : ℕ} (w : Picture n limit at from f to) where
   silent_waits : (p : ℕ) → p < n → (p ≡ from → ⊥) → (p ≡ to → ⊥) → waiting (frame_rule (at p) f from to).station ≡ waiting (at p)

@@ -5,9 +5,10 @@ use mathlib.Core.List.{List, [], ◌∷◌, Memᴰ}
 use Prim.Native.Nat.{ℕ}
 use lib.Dec.{eqb}
 use borrow.Author.Tests.{eqb-true, eqb-false, eq-eqb, ne_eqb}
+use Rattle.std.specs.Option.{option_map_or}
 use Rattle.parts.specs.Choose.{pick}
 use Rattle.parts.specs.Messages.{all, flies, fits, only, split_by, better_of, best_of, best}
-use Rattle.std.specs.Prelude.{Option, None}
+use Rattle.std.specs.Prelude.{Option, None, Some}
 use Rattle.parts.specs.Frames.{flight}
 use Rattle.station.specs.Stations.{awaited_of, quiet, head}
 use Rattle.station.specs.Strike.{leave}
@@ -55,10 +56,10 @@ unfolding resting
 resting_flies f m ms e = only_not (fits (AnyWaiting f)) m ms (flies_fits f m e)
 
 -- with none in flight all wait
-pub resting_all : (f : Option ℕ) → f.on ≡ false → (ms : List Message) → resting f ms ≡ ms
+pub resting_all : (f : Option ℕ) → f ≡ None → (ms : List Message) → resting f ms ≡ ms
 resting_all f e [] = resting_none f
 resting_all f e (m ∷ ms) =
-    resting_rests f m ms (ap (λ (t : Bool). t && eqb f.place m.place) e) ∙ ap (λ (l : List Message). m ∷ l) (resting_all f e ms)
+    resting_rests f m ms (ap (λ (g : Option ℕ). flies g m) e) ∙ ap (λ (l : List Message). m ∷ l) (resting_all f e ms)
 
 pub resting_listed : (f : Option ℕ) (m : Message) (ms : List Message) → flies f m ≡ false → Memᴰ m ms → Memᴰ m (resting f ms)
 resting_listed f m [] e h = elim h [ ]
@@ -103,15 +104,11 @@ pub top_none : top [] ≡ None
 unfolding top
 top_none = best_none (AnyWaiting None) None
 
-pub top_one : (m : Message) → top (m ∷ []) ≡ record { some = true; message = m }
+pub top_one : (m : Message) → top (m ∷ []) ≡ Some m
 unfolding top best_of better_of fits pick
 top_one m = refl
 
 -- ---- an acknowledgement
-
--- the message at the place p is in flight
-abbrev flown : ℕ → Option ℕ
-flown p = record { on = true; place = p }
 
 turned : (a b : ℕ) → eqb a b ≡ eqb b a
 turned a b = go (eqb a b) refl
@@ -121,27 +118,21 @@ turned a b = go (eqb a b) refl
     go false e = sym (ne_eqb b a (λ q. eqb-false a b e (sym q)))
 
 -- the others wait
-left_fits : (p : ℕ) (m : Message) → not (fits (HasPlace p) m) ≡ fits (AnyWaiting (flown p)) m
+left_fits : (p : ℕ) (m : Message) → not (fits (HasPlace p) m) ≡ fits (AnyWaiting (Some p)) m
 unfolding fits
 left_fits p m = ap not (turned m.place p)
 
-left_all : (s : Station) (p : ℕ) → all (leave s p).sends ≡ resting (flown p) (all s.sends)
+left_all : (s : Station) (p : ℕ) → all (leave s p).sends ≡ resting (Some p) (all s.sends)
 unfolding split_by resting
 left_all s p = pack_all (only (λ (m : Message). not (fits (HasPlace p) m)) (all s.sends)) ∙ (λ i. only (λ (m : Message). left_fits p m i) (all s.sends))
 
 landed_waits : (s : Station) → waiting (quiet (landed s) Idle) ≡ waiting s
-unfolding waiting landed pick
-landed_waits s = go (flight (awaited_of s)).on refl
+unfolding waiting landed
+landed_waits s = go (flight (awaited_of s))
   where
-    f : Option ℕ
-    f = flight (awaited_of s)
-
-    go : (t : Bool) → f.on ≡ t → resting None (all (quiet (pick t (leave s f.place) s) Idle).sends) ≡ resting f (all s.sends)
-    go true e =
-        resting_all None refl _
-        ∙ left_all s f.place
-        ∙ ap (λ (t : Bool). let g : (Option ℕ) = record { on = t; place = f.place } in resting g (all s.sends)) (sym e)
-    go false e = resting_all None refl _ ∙ sym (resting_all f e (all s.sends))
+    go : (f : Option ℕ) → resting None (all (quiet (option_map_or (leave s) f s) Idle).sends) ≡ resting f (all s.sends)
+    go None = refl
+    go (Some p) = resting_all None refl _ ∙ left_all s p
 
 pub acknowledged_waits : {from k : ℕ} {s : Station} → Listens from k s → waiting (acknowledge s from k) ≡ waiting s
 acknowledged_waits {from} {k} {s} (idle i) = ap waiting (idle_stays s from k i)

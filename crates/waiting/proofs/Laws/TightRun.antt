@@ -27,8 +27,8 @@ use Rattle.waiting.proofs.Laws.TightLoad.{its, foreign, spot, load, load_first, 
 -- told to send, a station with one message sends it
 sends_one : (n p : ℕ) (t : TransmitFrame) (ms : List Message) (z : Message) → ms ≡ z ∷ [] → reply (view n p (top ms)) (Transmit t) ≡ information_of (next t.number) z
 sends_one n p t ms z e =
-    let best : top ms ≡ record { some = true; message = z } = ap top e ∙ top_one z in
-    sends_head n p (top ms) t (ap (λ (b : Option Message). b.some) best) ∙ ap (λ (b : Option Message). information_of (next t.number) b.message) best
+    let best : top ms ≡ Some z = ap top e ∙ top_one z in
+    sends_head n p (top ms) z t best
 
 module _ (n : ℕ) (three : 3 ≤ n) (most : n ≤ 64) where
   both_below : Below spot 9 n (load n (foreign ∷ []))
@@ -41,7 +41,7 @@ module _ (n : ℕ) (three : 3 ≤ n) (most : n ≤ 64) where
   -- granted, station 0 sends it
   goes_now : (j : ℕ) (c : Bench) → Runs n (load n []) 1 (Transmit (granting j 9 1 0)) 0 c → Ahead spot 9 c 0 0
   goes_now j c r =
-      ahead_own spot 9 r alone_below (Information (carrying (next j) its)) 1 (sends_one n 0 (granting j 9 1 0) (load n [] 0) its (load_first n [])) refl refl refl
+      ahead_own spot 9 r alone_below (Information (carrying (next j) its)) 1 (sends_one n 0 (granting j 9 1 0) (load n [] 0) its (load_first n [])) refl refl
 
   -- the round of master 1
   second_round : (k : ℕ) (b : Bench) → Runs n (load n []) 1 (Token (opening 1 0 k None)) (after n 1) b → Ahead spot 9 b (0 + n) 0
@@ -63,7 +63,7 @@ module _ (n : ℕ) (three : 3 ≤ n) (most : n ≤ 64) where
       let one : load n (foreign ∷ []) (n - 1) ≡ foreign ∷ [] = load_last n (foreign ∷ []) (omega arith) in
       ahead_information spot 9 r both_below (load n []) (Information (carrying (next j) foreign)) 1
       (sends_one n (n - 1) (granting j 5 0 (n - 1)) (load n (foreign ∷ []) (n - 1)) foreign one) (longest_weighs (carrying (next j) foreign) refl) (λ e. omega arith)
-      (load_last n [] (omega arith) ∙ sym (ap (resting (record { on = true; place = 0 })) one ∙ resting_flies _ foreign [] refl ∙ resting_none _))
+      (load_last n [] (omega arith) ∙ sym (ap (resting (Some 0)) one ∙ resting_flies _ foreign [] refl ∙ resting_none _))
       (λ p h o. load_same n [] (foreign ∷ []) p o) (starts_second (next j) (step c))
 
   -- the round of master 0

@@ -43,7 +43,7 @@ use Rattle.waiting.proofs.Laws.TightLoad.{foreign, load, load_first, load_last, 
 -- a start leaves the send list as it was, and nothing flies
 pub record Starts (s t : Station) : Type 0 where
   pub same_sends : t.sends ≡ s.sends
-  pub none_flies : (flight (awaited_of s)).on ≡ false → (flight (awaited_of t)).on ≡ false
+  pub none_flies : flight (awaited_of s) ≡ None → flight (awaited_of t) ≡ None
 
 starts : (s : Station) → Starts s (start_rule s).station
 unfolding start_rule moved started start_round pick

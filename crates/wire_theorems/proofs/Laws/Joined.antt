@@ -7,24 +7,27 @@ use native.Mathlib.Omega.{arith}
 use borrow.Author.Tests.{leb-false, eqb-true, ltb-false, not-false}
 use lib.Dec.{leb, ltb, eqb}
 use lib.ListN.{length, length-take}
+use Rattle.std.proofs.lemmas.Option.{same_Some}
+use Rattle.std.specs.Option.{option_map_or, unwrap_or}
+use Rattle.parts.proofs.Laws.Choose.{map_or_keeps}
 use Rattle.codec.proofs.Laws.Order.{none_holds}
 use Rattle.packet_codec.specs.Packet.{information_length, read_packet}
 use Rattle.packet_codec.specs.declared.packet.Packet.{Packet}
 use Rattle.packet_codec.specs.declared.packet.Packet.TheVariants.{Token as TokenOf, Transmit as TransmitOf, Information as InformationOf}
 use Rattle.packet_codec.specs.declared.reading.Read.{Read}
 use Rattle.packet_codec.specs.declared.reading.Read.TheVariants.{Refused, Good}
-use Rattle.parts.specs.Messages.{all, pushed, lowest_free}
+use Rattle.parts.specs.Messages.{all, pushed, lowest_free, blank}
 use Rattle.parts.specs.Live.{live_at}
 use Rattle.parts.specs.Frames.{number_of, failing_of, flight}
 use Rattle.parts.specs.declared.list.Message.{Message}
 use Rattle.parts.specs.declared.list.Messages.{Messages}
 use Rattle.parts.specs.declared.list.Which.TheVariants.{OnChannel}
 use Rattle.parts.specs.declared.request.Request.{Request}
-use Rattle.std.specs.Prelude.{Option, None, Some}
+use Rattle.std.specs.Prelude.{Option, None, Some, is_none}
 use Rattle.parts.specs.Refusals.{take_refusal}
 use Rattle.parts.proofs.Laws.Queue.{queue_good}
 use Rattle.station.specs.Stations.{awaited_of, answered, moved, unless, alone}
-use Rattle.station.specs.Strike.{Loss, Struck, strike, give_up_to, give_up_at, give_up_flight, message_at, nothing_gone}
+use Rattle.station.specs.Strike.{Loss, Struck, strike, give_up_to, give_up_at, give_up_flight, message_at, nothing_gone, leave}
 use Rattle.station.specs.Heard.{Stored, acknowledged, landed, acknowledge, strike_other, strike_heard, failed, receive, stored, handle, respond, heard, frame_rule}
 use Rattle.station.specs.Queue.{queue_number, new_message, accepted, queue_rule}
 use Rattle.station.specs.Take.{best_on, taking, take_rule}
@@ -93,13 +96,21 @@ pub record Takes (s : Station) (room : ℕ) (m : Message) : Type 0 where
 abbrev TakesAll : Station → ℕ → Answer → Type 0
 TakesAll s room a = (m : Message) → a.payload ≡ Some m → Takes s room m
 
-taken_good : (s : Station) (channel room : ℕ) → take_refusal channel (best_on s channel) room ≡ 0 → Takes s room (best_on s channel).message
+taken_good : (s : Station) (channel room : ℕ) → take_refusal channel (best_on s channel) room ≡ 0 → Takes s room (unwrap_or (best_on s channel) blank)
 unfolding take_refusal
 taken_good s channel room e =
-    let t = none_holds 0 ((ltb 7 channel, 17) ∷ (not (best_on s channel).some, 20) ∷ (ltb room (best_on s channel).message.length, 21) ∷ [])
+    let t = none_holds 0 ((ltb 7 channel, 17) ∷ (is_none (best_on s channel), 20) ∷ (too_long (best_on s channel), 21) ∷ [])
     ((λ z. omega arith), ((λ z. omega arith), ((λ z. omega arith), tt))) e in
-    let f = (best_is_first (OnChannel channel) s.receives).first (not-false _ t.1.0) in
-    record { stood = standing f.before f.behind _ (all s.receives) f.stands; room_fits = ltb-false _ _ t.1.1.0 }
+    go (best_on s channel) refl t.1.0 t.1.1.0
+  where
+    too_long : Option Message → Bool
+    too_long b = option_map_or (λ (m : Message). ltb room m.length) b false
+
+    go : (b : Option Message) → best_on s channel ≡ b → is_none b ≡ false → too_long b ≡ false → Takes s room (unwrap_or b blank)
+    go None i n l = absurd (false≢true (sym n))
+    go (Some m) i n l =
+        let f = (best_is_first (OnChannel channel) s.receives).first m i in
+        record { stood = standing f.before f.behind m (all s.receives) f.stands; room_fits = ltb-false _ _ l }
 
 pub take_takes : (s : Station) (channel room : ℕ) → TakesAll s room (take_rule s channel room)
 unfolding take_rule moved unless taking
@@ -107,8 +118,7 @@ take_takes s channel room =
     pick_keeps (TakesAll s room) _ _ _
     (pick_keeps_if (TakesAll s room) (eqb (take_refusal channel (best_on s channel) room) 0) _ _
     (λ z m e.
-    let same : (best_on s channel).message ≡ m = cc in
-    subst (Takes s room) same (taken_good s channel room (eqb-true _ _ z)))
+    subst (Takes s room) (same_Some _ _ e) (taken_good s channel room (eqb-true _ _ z)))
     (λ m e. absurd (no_payload e)))
     (λ m e. absurd (no_payload e))
 
@@ -126,14 +136,12 @@ module _ (l : Messages) where
 
   acknowledge_has : (s : Station) (from k : ℕ) → Has s → Has (acknowledge s from k)
   unfolding acknowledge landed
-  acknowledge_has s from k h = pick_keeps Has (acknowledged s from k) _ s (pick_keeps Has (flight (awaited_of s)).on _ s h h) h
+  acknowledge_has s from k h = pick_keeps Has (acknowledged s from k) _ s (map_or_keeps Has (leave s) (flight (awaited_of s)) s (λ p. h) h) h
 
   flight_has : (k : Loss) → LossHas k → LossHas (give_up_flight k)
   unfolding give_up_flight give_up_at
   flight_has k h =
-      pick_keeps LossHas (flight (awaited_of k.station)).on _ k
-      (pick_keeps LossHas (message_at k.station (flight (awaited_of k.station)).place).some _ k h h)
-      h
+      map_or_keeps LossHas _ (flight (awaited_of k.station)) k (λ p. map_or_keeps LossHas _ (message_at k.station p) k (λ m. h) h) h
 
   failed_has : (s : Station) (w : Option ℕ) → Has s → StruckHas (failed s w)
   unfolding failed strike_heard strike_other give_up_to

@@ -8,6 +8,7 @@ use native.Mathlib.Omega.{arith}
 use borrow.Author.Tests.{eqb-true, eqb-false, not-false}
 use lib.Dec.{eqb}
 use lib.ListN.{length}
+use Rattle.std.proofs.lemmas.Option.{same_Some}
 use Rattle.parts.specs.Messages.{all, best_of}
 use Rattle.parts.specs.Moves.{move_of}
 use Rattle.parts.specs.declared.moves.State.{State}
@@ -98,7 +99,7 @@ same_place l a m c h k e =
     let v = stood k in
     let x : best_of (HasPlace m.place) (all l) None ≡ Some m = best_found (all l) u.0 u.1 m a u.2 in
     let y : best_of (HasPlace c.place) (all l) None ≡ Some c = best_found (all l) v.0 v.1 c a v.2 in
-    ap (λ (b : Option Message). b.message) (sym y ∙ ap (λ (n : ℕ). best_of (HasPlace n) (all l) None) e ∙ x)
+    same_Some _ _ (sym y ∙ ap (λ (n : ℕ). best_of (HasPlace n) (all l) None) e ∙ x)
 
 pub carries_message : {rec store : List ℕ} {i : InformationFrame} {to : ℕ} {rec' out' told' : List ℕ} → Held rec
     → Sends rec store (Information i) to rec' out' told' → (m : Message) → ToSend m rec' → m.place ≡ i.place → CarriesMessage store i to m
