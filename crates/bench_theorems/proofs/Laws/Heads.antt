@@ -1,14 +1,13 @@
 -- Laws of the head: an acknowledgement leaves it as it was, since the message that leaves did not wait. Assumes nothing.
 use mathlib.Core.Path.{◌≡◌, refl, sym, ap, ◌∙◌}
-use mathlib.Core.Bool.{Bool, true, false, not, false≢true}
+use mathlib.Core.Bool.{Bool, true, false, not}
 use mathlib.Core.List.{List, [], ◌∷◌}
 use Prim.Native.Nat.{ℕ}
 use lib.Dec.{eqb}
 use borrow.Author.Tests.{eqb-true, eqb-false, eq-eqb, ne_eqb}
 use Rattle.std.specs.Option.{option_map_or}
-use Rattle.parts.specs.Choose.{pick}
 use Rattle.parts.specs.Messages.{all, fits, only, split_by, better_of, best_of, best}
-use Rattle.parts.specs.Frames.{flight, Dispatch}
+use Rattle.parts.specs.Frames.{flight}
 use Rattle.parts.specs.Moves.{is_waiting}
 use Rattle.station.specs.Stations.{state_of, awaited_of, quiet, head}
 use Rattle.station.specs.Strike.{leave}
@@ -18,7 +17,6 @@ use Rattle.parts.specs.declared.list.Message.{Message}
 use Rattle.parts.specs.declared.list.Messages.{Messages}
 use Rattle.parts.specs.declared.list.Which.{Which}
 use Rattle.parts.specs.declared.list.Which.TheVariants.{AnyWaiting, HasPlace}
-use Rattle.parts.specs.declared.frame.Frame.TheVariants.{Token, Transmit, Information}
 use Rattle.std.specs.Prelude.{Option, None, Some}
 use Rattle.station.specs.declared.station.Station.{Station}
 use Rattle.parts.proofs.Laws.Messages.{best_none, best_more, only_none, only_one, only_not, better_unfit}

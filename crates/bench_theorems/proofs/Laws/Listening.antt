@@ -1,9 +1,8 @@
 -- Laws of a station that a frame finds Idle, or waiting and acknowledges: it is Idle once the frame has acknowledged it.
 -- Assumes nothing.
 use mathlib.Core.Path.{◌≡◌, refl, sym, ap, subst, ◌∙◌}
-use mathlib.Core.Bool.{Bool, true, false}
+use mathlib.Core.Bool.{true}
 use Prim.Native.Nat.{ℕ}
-use Rattle.parts.specs.Choose.{pick}
 use Rattle.parts.specs.Moves.{move_of, runs, is_waiting}
 use Rattle.parts.specs.Frames.{number_of, flight, is_ahead, acknowledges, Dispatch}
 use Rattle.station.specs.Stations.{state_of, awaited_of, quiet}

@@ -28,7 +28,7 @@ use Rattle.station.specs.declared.station.Station.{Station}
 use Rattle.parts.proofs.Laws.Choose.{pick_true, pick_false, map_or_either}
 use Rattle.parts.proofs.Laws.Messages.{only_length}
 use Rattle.station_theorems.proofs.Laws.States.{heard_cases}
-use Rattle.parts.proofs.Laws.Tests.{held, hold, each_weaker}
+use Rattle.parts.proofs.Laws.Tests.{held, hold}
 use Rattle.station_theorems.proofs.Laws.Kept.{each_taken, list_only, list_length, pack_all, pack_length}
 use Rattle.station_theorems.proofs.Laws.Carried.{best_only}
 use Rattle.station_theorems.proofs.Laws.Seats.{seating, struck_other, struck_length, struck_fewer}

@@ -1,7 +1,7 @@
 -- A queue call only adds to a station's list: a message that waits waits on, and an accepted message waits from its acceptance on. Assumes
 -- nothing.
 use mathlib.Core.Path.{◌≡◌, refl, sym, ap, subst, ◌∙◌}
-use mathlib.Core.Bool.{Bool, true, false, ◌&&◌, and-false, false≢true}
+use mathlib.Core.Bool.{Bool, true, false, false≢true}
 use mathlib.Core.List.Memᴰ
 use mathlib.Core.List.{[], ◌∷◌, ◌++◌, Memᴰ}
 use native.Mathlib.Omega.{arith}

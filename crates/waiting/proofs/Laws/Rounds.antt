@@ -18,7 +18,6 @@ use Rattle.bench_theorems.specs.Quiet.{offset}
 use Rattle.bench_theorems.proofs.Laws.Offset.{offset_own, offset_same}
 use Rattle.bench_theorems.proofs.Laws.FullSet.{full_live}
 use Rattle.bench_theorems.proofs.Laws.Answering.{view}
-use Rattle.bench_theorems.proofs.Laws.Replies.{either}
 use Rattle.waiting.proofs.Laws.Ahead.{Tops, named, to_ask, granted, granted_another, another's, Turns, its_own, another}
 
 -- the message m is on top at s; the station at p, of the head h, composes a frame, of so many that may be

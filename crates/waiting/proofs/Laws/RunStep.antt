@@ -3,7 +3,7 @@ use mathlib.Core.Path.{◌≡◌, refl, sym, ap, subst, ◌∙◌}
 use Prim.Native.Nat.{ℕ, ◌<◌}
 use Rattle.parts.specs.Messages.{all}
 use Rattle.parts.specs.Frames.{number_of, flight, Dispatch}
-use Rattle.std.specs.Prelude.{Option, None}
+use Rattle.std.specs.Prelude.{None}
 use Rattle.station.specs.Stations.{awaited_of}
 use Rattle.station.specs.Sight.{sight}
 use Rattle.sent.specs.Round.{reply}

@@ -1,6 +1,6 @@
 -- The messages that wait at a station, as a list: its best is the head, and an acknowledgement leaves it as it was. Assumes nothing.
 use mathlib.Core.Path.{◌≡◌, refl, sym, ap, subst, ◌∙◌}
-use mathlib.Core.Bool.{Bool, true, false, not, ◌&&◌}
+use mathlib.Core.Bool.{Bool, true, false, not}
 use mathlib.Core.List.{List, [], ◌∷◌, Memᴰ}
 use Prim.Native.Nat.{ℕ}
 use lib.Dec.{eqb}

@@ -1,7 +1,6 @@
 -- The run that reaches the bound, from the first frame on: a round of master 0 in which the last station is granted, its information,
 -- and a round of master 1 in which station 0 is granted. Assumes nothing.
 use mathlib.Core.Path.{◌≡◌, refl, sym, ap, ◌∙◌}
-use mathlib.Core.Bool.{true}
 use mathlib.Core.List.Memᴰ
 use mathlib.Core.List.{List, [], ◌∷◌}
 use Prim.Native.Nat.{ℕ, ◌+◌, ◌-◌, ◌≤◌}
@@ -10,7 +9,7 @@ use Rattle.parts.specs.Live.{after}
 use Rattle.parts.specs.Frames.{next}
 use Rattle.sent.specs.Round.{priority_of, opening, carrying, granting, information_of, reply}
 use Rattle.parts.specs.declared.list.Message.{Message}
-use Rattle.std.specs.Prelude.{Option, None, Some}
+use Rattle.std.specs.Prelude.{None, Some}
 use Rattle.parts.specs.declared.frame.TransmitFrame.{TransmitFrame}
 use Rattle.parts.specs.declared.frame.Frame.TheVariants.{Token, Transmit, Information}
 use Rattle.parts.proofs.Laws.Live.{after_inside, after_last}

@@ -9,7 +9,6 @@ use native.Mathlib.Omega.{arith}
 use lib.Dec.{eqb}
 use borrow.Author.Tests.{eqb-true, eqb-false, not-true}
 use Rattle.std.proofs.lemmas.Option.{same_Some}
-use Rattle.parts.specs.Choose.{pick}
 use Rattle.parts.specs.Frames.{flight}
 use Rattle.parts.specs.Messages.{all, flies, fits, best_of}
 use Rattle.std.specs.Prelude.{Option, None, Some}

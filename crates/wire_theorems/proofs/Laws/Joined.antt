@@ -1,10 +1,10 @@
 -- Which message's payload a call moves: one that joins a list, in a place that no other has, or one that is taken from it. Assumes nothing.
 use mathlib.Core.Path.{◌≡◌, refl, sym, ap, subst, ◌∙◌}
-use mathlib.Core.Bool.{Bool, true, false, false≢true}
+use mathlib.Core.Bool.{Bool, false, false≢true}
 use mathlib.Core.List.{List, [], ◌∷◌, ◌++◌, Memᴰ}
 use Prim.Native.Nat.{ℕ, ◌<◌, ◌≤◌}
 use native.Mathlib.Omega.{arith}
-use borrow.Author.Tests.{leb-false, eqb-true, ltb-false, not-false}
+use borrow.Author.Tests.{leb-false, eqb-true, ltb-false}
 use lib.Dec.{leb, ltb, eqb}
 use lib.ListN.{length, length-take}
 use Rattle.std.proofs.lemmas.Option.{same_Some}

@@ -23,7 +23,7 @@ use Rattle.parts.specs.declared.frame.Frame.TheVariants.{Information}
 use Rattle.station.specs.Stations.{state_of, answered, moved, unless}
 use Rattle.station.specs.Queue.{new_message, queue_number, accepted, queue_rule}
 use Rattle.station.specs.declared.station.Station.{Station}
-use Rattle.std.specs.Prelude.{Option, None, Some}
+use Rattle.std.specs.Prelude.{None, Some}
 use Rattle.station.specs.declared.station.Answer.{Answer}
 use Rattle.wholeness.specs.Whole.{apart}
 use Rattle.station_theorems.proofs.Laws.Carried.{best_found}
