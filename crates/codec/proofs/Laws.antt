@@ -10,4 +10,3 @@ pub mod Members
 pub mod Forms
 pub mod Written
 pub mod Front
-pub mod Refusals

@@ -3,4 +3,3 @@ pub mod Octets
 pub mod Bits
 pub mod Sizes
 pub mod Ring
-pub mod Refusals

@@ -7,6 +7,5 @@ pub mod forms;
 pub mod head;
 pub mod octets;
 pub mod reader;
-pub mod refusal;
 pub mod ring;
 pub mod sizes;
