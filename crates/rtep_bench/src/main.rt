@@ -10,7 +10,8 @@ use script::session::{ROOM, Session, obey};
 use std::io;
 use std::io::Read;
 
-// A script that is being read: its session, the line in hand, and what is still to be written, the start of `out`.
+// A script that is being read: its session, the line in hand, and what is still to be written, the first `used` octets of `out`.
+// Buffer and end stand side by side: nothing allocates, and what prints lays octets into a lent slice from a place on.
 #[derive(Drop)]
 struct Script {
     session: Session,

@@ -85,7 +85,7 @@ fn read_named<R: Env + Files + Eprint, const N: usize>(
     }
 }
 
-// Writes what stands in the buffer: no call says that it has more than the buffer.
+// Writes the buffer's first octets: what prints lays them into a lent slice, and no call says that they are more than it has.
 fn write(rt: &impl Print, out: &[u8], used: usize) -> io::Result<()> {
     rt.write_all(&out[..used.min(out.len())])
 }

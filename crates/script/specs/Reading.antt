@@ -1,5 +1,5 @@
 -- Reading a script octet by octet: of a line its first 40 octets are kept, and each line is obeyed as its line feed comes.
-use Rattle.std.specs.Prelude.{List, [], ◌∷◌, ◌++◌, ℕ, ltb, eqb, length, Option, Some, None}
+use Rattle.std.specs.Prelude.{◌≡◌, List, [], ◌∷◌, ◌++◌, ℕ, ltb, eqb, length, take, Option, Some, None}
 use Rattle.parts.specs.Choose.{pick}
 use Rattle.bench.specs.Text.{line_feed}
 use Rattle.script.specs.Lines.{line_of}
@@ -12,6 +12,10 @@ no_held = []
 -- one octet more, where there is room
 unfoldable pub keep_one : List ℕ → ℕ → List ℕ
 keep_one h c = pick (ltb (length h) 40) (h ++ c ∷ []) h
+
+-- of the octets x of a line the first 40 are kept
+abbrev pub Keeps : List ℕ → List ℕ → Type 0
+Keeps h x = h ≡ take 40 x
 
 -- a line after more of it was read, and what stands behind its line feed, where that has come
 pub record Fed : Type 0 where

@@ -1,6 +1,7 @@
 -- A line of 36 octets or more is of no good shape: the longest is `queue` and five numbers of five digits, 35 octets. So of a line it is
 -- enough to keep the first 40 octets: they say what the line says. Assumes nothing.
-use Rattle.std.proofs.Common.{◌≡◌, ℕ, suc, ◌+◌, ◌*◌, ◌<◌, ◌≤◌, Bool, true, false, cond, List, [], ◌∷◌, length, take, eqb, leb, None, refl, sym, ap, ◌∙◌, arith}
+use Rattle.std.specs.Prelude.{ℕ, List, [], ◌∷◌, length, take, None}
+use Rattle.std.proofs.Common.{◌≡◌, suc, ◌+◌, ◌*◌, ◌<◌, ◌≤◌, Bool, true, false, cond, eqb, leb, refl, sym, ap, ◌∙◌, arith}
 use Rattle.std.specs.List.{onto_first, list_all}
 use Rattle.std.specs.Str.{bytes_eq}
 use Rattle.std.proofs.Math.Seq.{take_all, length-take-le}

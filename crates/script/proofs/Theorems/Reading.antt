@@ -1,24 +1,28 @@
 -- A script that is read octet by octet, with the first 40 octets of each line kept, prints what its lines print. Assumes nothing.
-use Rattle.std.proofs.Common.{◌≡◌, ℕ, ◌+◌, ◌<◌, ◌≤◌, Bool, true, false, List, [], ◌∷◌, ◌++◌, length, take, eqb, ltb, refl, sym, ap, ◌∙◌, append_assoc, append-nil, length-append, arith}
-use Rattle.std.specs.Prelude.{Option}
+use Rattle.std.proofs.Common.{◌≡◌, ◌+◌, ◌<◌, ◌≤◌, Bool, true, false, eqb, ltb, refl, sym, ap, ◌∙◌, append_assoc, append-nil, length-append, arith}
+use Rattle.std.specs.Prelude.{ℕ, List, [], ◌∷◌, ◌++◌, length, take, Option}
 use Rattle.std.proofs.Math.Seq.{take_all, take-append-le, length-take-le}
 use Rattle.std.proofs.lemmas.Bool.{lt-ltb, le-ltb, ltb-true, ltb-false}
 use Rattle.parts.proofs.Laws.Choose.{pick_true, pick_false}
 use Rattle.bench.specs.Text.{line_feed}
 use Rattle.script.specs.Lines.{line_of, opening, lines_of}
 use Rattle.script.specs.Script.{Session, unbegun, does, prints, printed, output}
-use Rattle.script.specs.Reading.{no_held, keep_one, told}
+use Rattle.script.specs.Reading.{no_held, keep_one, Keeps, told}
 use Rattle.script.specs.declared.lines.Line.{Line}
 use Rattle.script.proofs.Laws.Reading.{keep_room, keep_full}
 use Rattle.script.proofs.Theorems.LongLines.{long_lines}
 
 -- ---- what is kept of a line
 
+-- they say what the line says
+pub kept_line : (h x : List ℕ) → Keeps h x → line_of h ≡ line_of x
+kept_line h x k = ap line_of k ∙ long_lines x
+
 -- one octet more leaves the first 40
-kept_more : (x : List ℕ) (c : ℕ) → keep_one (take 40 x) c ≡ take 40 (x ++ c ∷ [])
+kept_more : (x : List ℕ) (c : ℕ) → Keeps (keep_one (take 40 x) c) (x ++ c ∷ [])
 kept_more x c = go (ltb (length x) 40) refl
   where
-    go : (b : Bool) → ltb (length x) 40 ≡ b → keep_one (take 40 x) c ≡ take 40 (x ++ c ∷ [])
+    go : (b : Bool) → ltb (length x) 40 ≡ b → Keeps (keep_one (take 40 x) c) (x ++ c ∷ [])
     go true e =
         let h : length x < 40 = ltb-true (length x) 40 e in
         let n : length (x ++ c ∷ []) ≡ length x + 1 = length-append x (c ∷ []) in
