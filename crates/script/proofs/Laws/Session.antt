@@ -135,13 +135,13 @@ module _ (s : Session) (l : Option Line) (out : List ℕ) (at : ℕ) where
 -- the heading and frame 0, one behind the other
 pub ring_laid : (l l₁ l₂ : List ℕ) (at a used n : ℕ) (b : Bench) → at + 64 ≤ length l → b ≡ ring_of n
     → (l₁ ≡ laid l at heading) × (a ≡ at + length heading) → (l₂ ≡ laid l₁ a (rows_text (rows_on b.wire))) × (used ≡ a + length (rows_text (rows_on b.wire)))
-    → (l₂ ≡ laid l at (ring_text n)) × (used ≡ at + length (ring_text n))
+    → l₂ ≡ laid l at (ring_text n)
 ring_laid l l₁ l₂ at a used n b h e p q =
     let s : length (rows_text (rows_on b.wire)) ≤ 32 = wire_short b.wire in
     let o : (l₂ ≡ laid l at (heading ++ rows_text (rows_on b.wire))) × (used ≡ at + length (heading ++ rows_text (rows_on b.wire))) =
     laid_both l l₁ l₂ heading (rows_text (rows_on b.wire)) at a used (omega arith) p.1 q.1 p.0 q.0 in
     let t : heading ++ rows_text (rows_on b.wire) ≡ ring_text n = ap (λ (x : Bench). heading ++ rows_text (rows_on x.wire)) e in
-    (o.0 ∙ ap (laid l at) t, o.1 ∙ ap (λ x. at + length x) t)
+    o.0 ∙ ap (laid l at) t
 
 pub opens_few : (n : ℕ) → opens n ≡ true → n ≤ 64
 unfolding opens

@@ -7,12 +7,3 @@ pub overflow_sub-result : goal.overflow_sub-result
 overflow_sub-result c =
     let a = c.args in
     omega (arith, fitting_most a.count (length a.out.now - a.at), ap (λ (r : Ran). r.done) c.run-ran.ensures.0)
-
-pub returns : goal.returns
-returns c =
-    let e = c.run-ran.ensures in
-    record {
-      acted = ap (λ (r : Ran). record { used = r.used; left = c.args.count - r.done }) e.0;
-      bench = ap (λ (r : Ran). r.bench) e.0;
-      text = e.1;
-    }
