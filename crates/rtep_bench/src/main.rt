@@ -60,7 +60,7 @@ impl Script {
         Ok(acted.left)
     }
 
-    // A line with all of its steps.
+    // A line with all of its steps. It counts no index: how many are left, each call says.
     fn carry_out(&mut self, rt: &impl Print, line: Option<Line>) -> io::Result<()> {
         let mut left = self.act(rt, line)?;
         while left > 0 {
