@@ -1,16 +1,14 @@
 -- The bench by rule 2 as it was until CR 2: "a Waiting station is acknowledged by a frame from its addressee with the number after its own
 -- frame's". Everything else is as it stands.
-use Rattle.std.specs.Prelude.{Bool, false, List, [], ◌∷◌, ◌++◌, ℕ, suc, ltb, eqb}
+use Rattle.std.specs.Prelude.{Bool, false, List, [], ◌∷◌, ◌++◌, ℕ, suc, ltb, eqb, None, Some}
 use Rattle.parts.specs.Choose.{pick}
 use Rattle.parts.specs.Moves.{is_waiting}
-use Rattle.parts.specs.Frames.{number_of, failing_of, next}
+use Rattle.parts.specs.Frames.{number_of, failing_of, next, Dispatch}
 use Rattle.station.specs.Stations.{state_of, awaited_of, quiet, answered, moved, unless}
 use Rattle.station.specs.Heard.{landed, failed, respond, checks}
 use Rattle.parts.specs.declared.moves.State.TheVariants.{Idle}
 use Rattle.parts.specs.declared.moves.Event.TheVariants.{Heard}
 use Rattle.parts.specs.declared.frame.Frame.{Frame}
-use Rattle.parts.specs.declared.frame.Dispatch.{Dispatch}
-use Rattle.parts.specs.declared.frame.Dispatch.TheVariants.{Nothing, Sent}
 use Rattle.station.specs.declared.station.Station.{Station}
 use Rattle.station.specs.declared.station.Answer.{Answer}
 use Rattle.bench.specs.Ring.{station_at}
@@ -25,8 +23,8 @@ use Rattle.bench.specs.declared.rows.Row.{Row}
 
 -- a frame `from` with the number k acknowledges the awaited one: it is from its addressee, with the number after its own
 unfoldable pub acknowledges_before : Dispatch → ℕ → ℕ → Bool
-acknowledges_before Nothing from k = false
-acknowledges_before (Sent frame to) from k = pick (eqb from to) (eqb k (next (number_of frame))) false
+acknowledges_before None from k = false
+acknowledges_before (Some (frame, to)) from k = pick (eqb from to) (eqb k (next (number_of frame))) false
 
 unfoldable pub acknowledged_before : Station → ℕ → ℕ → Bool
 acknowledged_before s from k = pick (is_waiting (state_of s)) (acknowledges_before (awaited_of s) from k) false
@@ -52,8 +50,8 @@ delivered_before n f from to p [] = []
 delivered_before n f from to p (s ∷ ss) = (handed_before n f from to p s).station ∷ delivered_before n f from to (suc p) ss
 
 unfoldable pub step_on_before : Bench → Dispatch → Bench
-step_on_before b Nothing = b
-step_on_before b (Sent frame to) =
+step_on_before b None = b
+step_on_before b (Some (frame, to)) =
     record {
       n = b.n;
       stations = delivered_before b.n frame b.wire.from to 0 b.stations;

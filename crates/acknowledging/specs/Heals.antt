@@ -1,12 +1,10 @@
 -- "One missed frame heals."
-use Rattle.std.specs.Prelude.{◌≡◌, Bool, true, false, List, ℕ, ◌<◌}
+use Rattle.std.specs.Prelude.{◌≡◌, Bool, true, false, List, ℕ, ◌<◌, None, Some}
 use Rattle.parts.specs.Messages.{none}
 use Rattle.station.specs.Heard.{frame_rule}
 use Rattle.station.specs.Timer.{timer_rule}
-use Rattle.parts.specs.declared.frame.Whom.TheVariants.{Nobody}
 use Rattle.parts.specs.declared.frame.Frame.{Frame}
-use Rattle.parts.specs.declared.frame.Dispatch.{Dispatch}
-use Rattle.parts.specs.declared.frame.Dispatch.TheVariants.{Nothing, Sent}
+use Rattle.parts.specs.Frames.{Dispatch}
 use Rattle.station.specs.declared.station.Answer.{Answer}
 use Rattle.bench.specs.Ring.{station_at}
 use Rattle.bench.specs.Delivery.{step}
@@ -16,13 +14,13 @@ use Rattle.acknowledging.specs.Missing.{heard_but, miss, timer_at, Retries, Mean
 
 -- nobody is struck, and no message is given up
 pub record Spares (a : Answer) : Type 0 where
-  pub nobody_struck : a.struck ≡ Nobody
+  pub nobody_struck : a.struck ≡ None
   pub none_given_up : a.gone ≡ none
 
 -- so in every call of a step in which the stations told by `misses` miss the frame on the wire
 unfoldable pub SparesOn : (ℕ → Bool) → Bench → Dispatch → Type 0
-SparesOn misses b Nothing = Unit {0}
-SparesOn misses b (Sent f to) =
+SparesOn misses b None = Unit {0}
+SparesOn misses b (Some (f, to)) =
     (p : ℕ) → p < b.n → heard_but misses b.wire.from p ≡ true → Spares (frame_rule (station_at b p) f b.wire.from to)
 
 abbrev pub SparesAll : (ℕ → Bool) → Bench → Type 0
@@ -61,10 +59,10 @@ pub record Harmless (misses : ℕ → Bool) (c : Bench) (p : ℕ) : Type 0 where
 pub record Heals (misses : ℕ → Bool) (b : Bench) : Type 0 where
   pub frame : Frame
   pub to : ℕ
-  pub on_wire : b.wire.sent ≡ Sent frame to
+  pub on_wire : b.wire.sent ≡ Some (frame, to)
   pub spares_all : SparesAll misses b
   pub heard : misses to ≡ false → AtOnce misses b
-  pub unanswered : misses to ≡ true → (miss misses b).wire.sent ≡ Nothing
+  pub unanswered : misses to ≡ true → (miss misses b).wire.sent ≡ None
   pub meanwhile : misses to ≡ true → (c : Bench) → Meanwhile b.wire.from (miss misses b) c → (p : ℕ) → Retries b.wire.from c p
       → (others : ℕ → Bool) → Harmless others c p
   pub missed : misses to ≡ true → (c : Bench) → Meanwhile b.wire.from (miss misses b) c → ByTimer b c

@@ -1,11 +1,10 @@
 -- A wire on which stations miss a frame and timers run: what happens on the bench then.
-use Rattle.std.specs.Prelude.{◌≡◌, Bool, false, map, ℕ, ◌<◌, set}
+use Rattle.std.specs.Prelude.{◌≡◌, Bool, false, map, ℕ, ◌<◌, set, None, Some}
 use Rattle.parts.specs.Choose.{pick}
 use Rattle.station.specs.Stations.{state_of, with_turn}
 use Rattle.station.specs.Timer.{timer_rule}
 use Rattle.parts.specs.declared.moves.State.TheVariants.{Waiting}
-use Rattle.parts.specs.declared.frame.Dispatch.{Dispatch}
-use Rattle.parts.specs.declared.frame.Dispatch.TheVariants.{Nothing, Sent}
+use Rattle.parts.specs.Frames.{Dispatch}
 use Rattle.station.specs.declared.station.Turn.{Turn}
 use Rattle.station.specs.declared.station.Station.{Station}
 use Rattle.bench.specs.Ring.{station_at, on_wire}
@@ -19,8 +18,8 @@ abbrev pub heard_but : (ℕ → Bool) → ℕ → ℕ → Bool
 heard_but misses from p = pick (misses p) false (others from p)
 
 unfoldable pub miss_on : (ℕ → Bool) → Bench → Dispatch → Bench
-miss_on misses b Nothing = b
-miss_on misses b (Sent frame to) = deliver_to (heard_but misses b.wire.from) b frame to
+miss_on misses b None = b
+miss_on misses b (Some (frame, to)) = deliver_to (heard_but misses b.wire.from) b frame to
 
 -- a step in which they miss the frame on the wire
 unfoldable pub miss : (ℕ → Bool) → Bench → Bench

@@ -1,15 +1,11 @@
 -- "One frame is on the wire; a step hands it to every other station and puts the addressee's new frame on the wire."
-use Rattle.std.specs.Prelude.{Bool, true, false, not, ◌&&◌, List, [], ◌∷◌, ℕ, zero, suc, ltb, eqb}
+use Rattle.std.specs.Prelude.{Bool, true, false, not, ◌&&◌, List, [], ◌∷◌, ℕ, zero, suc, ltb, eqb, Option, None, Some}
 use Rattle.parts.specs.Choose.{pick}
 use Rattle.parts.specs.Moves.{is_waiting}
-use Rattle.parts.specs.Frames.{failing_of}
+use Rattle.parts.specs.Frames.{failing_of, Dispatch}
 use Rattle.station.specs.Stations.{state_of, answered}
 use Rattle.station.specs.Heard.{frame_rule}
-use Rattle.parts.specs.declared.frame.Whom.{Whom}
-use Rattle.parts.specs.declared.frame.Whom.TheVariants.{Nobody, Member}
 use Rattle.parts.specs.declared.frame.Frame.{Frame}
-use Rattle.parts.specs.declared.frame.Dispatch.{Dispatch}
-use Rattle.parts.specs.declared.frame.Dispatch.TheVariants.{Nothing, Sent}
 use Rattle.station.specs.declared.station.Station.{Station}
 use Rattle.station.specs.declared.station.Answer.{Answer}
 use Rattle.bench.specs.Ring.{station_at}
@@ -55,13 +51,13 @@ abbrev pub deliver : Bench → Frame → ℕ → Bench
 deliver b f to = deliver_to (others b.wire.from) b f to
 
 abbrev pub is_sent : Dispatch → Bool
-is_sent Nothing = false
-is_sent (Sent frame to) = true
+is_sent None = false
+is_sent (Some (frame, to)) = true
 
 -- with no frame on the wire a step does nothing
 unfoldable pub step_on : Bench → Dispatch → Bench
-step_on b Nothing = b
-step_on b (Sent frame to) = deliver b frame to
+step_on b None = b
+step_on b (Some (frame, to)) = deliver b frame to
 
 unfoldable pub step : Bench → Bench
 step b = step_on b b.wire.sent
@@ -73,9 +69,9 @@ steps (suc k) b = steps k (step b)
 
 -- ---- who is handed back as it was
 
-abbrev pub is_nobody : Whom → Bool
-is_nobody Nobody = true
-is_nobody (Member p) = false
+abbrev pub is_nobody : Option ℕ → Bool
+is_nobody None = true
+is_nobody (Some p) = false
 
 -- a frame that names no failing station
 abbrev pub is_quiet : Frame → Bool

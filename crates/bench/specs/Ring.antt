@@ -1,10 +1,9 @@
 -- The bench: a table of stations and the frame on the wire; and how a ring begins.
-use Rattle.std.specs.Prelude.{ℕ, zero, suc, get_or, set, replicate}
+use Rattle.std.specs.Prelude.{ℕ, zero, suc, get_or, set, replicate, None, Some}
 use Rattle.parts.specs.Live.{seats}
 use Rattle.station.specs.Stations.{made}
 use Rattle.station.specs.Start.{start_rule}
-use Rattle.parts.specs.declared.frame.Dispatch.{Dispatch}
-use Rattle.parts.specs.declared.frame.Dispatch.TheVariants.{Nothing, Sent}
+use Rattle.parts.specs.Frames.{Dispatch}
 use Rattle.station.specs.declared.station.Station.{Station}
 use Rattle.station.specs.declared.station.Answer.{Answer}
 use Rattle.bench.specs.declared.ring.Wire.{Wire}
@@ -20,8 +19,8 @@ station_at b p = get_or b.stations p nobody
 
 -- a frame that the station at p sends goes on the wire; where it sends none the wire stays as it is
 unfoldable pub on_wire : Wire → ℕ → Dispatch → Wire
-on_wire w p Nothing = w
-on_wire w p (Sent frame to) = record { from = p; sent = Sent frame to }
+on_wire w p None = w
+on_wire w p (Some (frame, to)) = record { from = p; sent = Some (frame, to) }
 
 -- what the member p of a ring of n with a retry limit answers to its start
 abbrev pub first_answer : ℕ → ℕ → ℕ → Answer
@@ -43,7 +42,7 @@ start_down limit (suc k) b = start_down limit k (start_at limit b k)
 
 -- no station has started, and no frame is on the wire
 abbrev pub empty_bench : ℕ → Bench
-empty_bench n = record { n = n; stations = replicate 64 nobody; wire = record { from = 0; sent = Nothing } }
+empty_bench n = record { n = n; stations = replicate 64 nobody; wire = record { from = 0; sent = None } }
 
 -- a ring of n stations with a retry limit: "stations start from N−1 down to 0"
 unfoldable pub ring_with : ℕ → ℕ → Bench

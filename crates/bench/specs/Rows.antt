@@ -1,14 +1,10 @@
 -- What is told of a frame: "number, kind (T, G for transmit token, I), sender, addressee, priority, octets on the wire".
-use Rattle.std.specs.Prelude.{List, [], ◌∷◌, ℕ, ◌+◌}
+use Rattle.std.specs.Prelude.{List, [], ◌∷◌, ℕ, ◌+◌, Option, None, Some}
 use Rattle.packet_codec.specs.Packet.{token, transmit, information, wire_octets}
 use Rattle.packet_codec.specs.declared.packet.Packet.{Packet}
-use Rattle.parts.specs.Frames.{number_of}
-use Rattle.parts.specs.declared.frame.Whom.{Whom}
-use Rattle.parts.specs.declared.frame.Whom.TheVariants.{Nobody, Member}
+use Rattle.parts.specs.Frames.{number_of, Dispatch}
 use Rattle.parts.specs.declared.frame.Frame.{Frame}
 use Rattle.parts.specs.declared.frame.Frame.TheVariants.{Token, Transmit, Information}
-use Rattle.parts.specs.declared.frame.Dispatch.{Dispatch}
-use Rattle.parts.specs.declared.frame.Dispatch.TheVariants.{Nothing, Sent}
 use Rattle.bench.specs.declared.ring.Wire.{Wire}
 use Rattle.bench.specs.declared.rows.Kind.{Kind}
 use Rattle.bench.specs.declared.rows.Kind.TheVariants.{T, G, I}
@@ -28,9 +24,9 @@ priority_in (Information i) = i.priority
 abbrev pub address_of : ℕ → ℕ
 address_of p = p + 1
 
-abbrev pub address_or_none : Whom → ℕ
-address_or_none Nobody = 0
-address_or_none (Member p) = address_of p
+abbrev pub address_or_none : Option ℕ → ℕ
+address_or_none None = 0
+address_or_none (Some p) = address_of p
 
 -- the packet that the codec writes for a frame
 abbrev pub packet_of : Frame → Packet
@@ -49,8 +45,8 @@ row_of from f to =
 
 -- the frame on the wire, if there is one
 unfoldable pub row_on : ℕ → Dispatch → List Row
-row_on from Nothing = []
-row_on from (Sent frame to) = row_of from frame to ∷ []
+row_on from None = []
+row_on from (Some (frame, to)) = row_of from frame to ∷ []
 
 abbrev pub rows_on : Wire → List Row
 rows_on w = row_on w.from w.sent

@@ -1,9 +1,8 @@
 -- "The bench keeps a lent table of station records, one for each member": what the functions over the lent table give.
-use Rattle.std.specs.Prelude.{Bool, true, false, List, ℕ, zero, suc, ◌+◌, ltb, length, get_or, set}
+use Rattle.std.specs.Prelude.{Bool, true, false, List, ℕ, zero, suc, ◌+◌, ltb, length, get_or, set, None, Some}
 use Rattle.parts.specs.Choose.{pick}
 use Rattle.parts.specs.Live.{seats}
-use Rattle.parts.specs.declared.frame.Dispatch.{Dispatch}
-use Rattle.parts.specs.declared.frame.Dispatch.TheVariants.{Nothing, Sent}
+use Rattle.parts.specs.Frames.{Dispatch}
 use Rattle.parts.specs.declared.frame.Frame.{Frame}
 use Rattle.parts.specs.declared.frame.Frame.TheVariants.{Transmit}
 use Rattle.parts.specs.declared.request.Request.{Request}
@@ -48,8 +47,8 @@ abbrev pub no_frame : Frame
 no_frame = Transmit (granting 0 0 0 0)
 
 abbrev pub handing_by : Going → Dispatch → Handing
-handing_by g Nothing = record { n = g.n; m = seats g.n; frame = no_frame; quiet = true; from = 0; to = 0; lost = false }
-handing_by g (Sent frame to) =
+handing_by g None = record { n = g.n; m = seats g.n; frame = no_frame; quiet = true; from = 0; to = 0; lost = false }
+handing_by g (Some (frame, to)) =
     record { n = g.n; m = seats g.n; frame = frame; quiet = is_quiet frame; from = g.wire.from; to = to; lost = false }
 
 -- what is handed round in the next step

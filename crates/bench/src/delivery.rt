@@ -4,7 +4,7 @@ ghost use Rattle.bench.specs.Delivery.{is_quiet, stands_by, reply_to};
 ghost use Rattle.bench.specs.Table.{hears, left_as_is};
 
 use crate::table::Handing;
-use parts::frame::{Dispatch, Frame, Whom};
+use parts::frame::{Dispatch, Frame};
 use station::station::Station;
 
 // A frame that names no failing station.
@@ -13,8 +13,8 @@ pub fn is_quiet(frame: Frame) -> bool
 {
     let failing = parts::frame::failing_of(frame);
     match failing {
-        Whom::Nobody => true,
-        Whom::Member(_) => false,
+        None => true,
+        Some(_) => false,
     }
 }
 

@@ -27,8 +27,8 @@ pub fn put_on(w: Wire, p: u8, d: Dispatch) -> Wire
     ensures { result ≡ on_wire w p d }
 {
     match d {
-        Dispatch::Nothing => w,
-        Dispatch::Sent { frame: _, to: _ } => Wire { from: p, sent: d },
+        None => w,
+        Some((_, _)) => Wire { from: p, sent: d },
     }
 }
 
@@ -41,7 +41,7 @@ impl Bench {
         let mut stations = [nobody; 64];
         let mut wire = Wire {
             from: 0,
-            sent: Dispatch::Nothing,
+            sent: None,
         };
         let mut p = parts::live::seats(n);
         while 0 < p {

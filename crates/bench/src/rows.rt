@@ -3,7 +3,7 @@ ghost use Rattle.std.specs.Prelude.{◌≡◌};
 ghost use Rattle.bench.specs.Rows.{kind_of, priority_in, address_of, address_or_none, packet_of, octets_of, row_of};
 
 use packet_codec::packet::Packet;
-use parts::frame::{Frame, Whom};
+use parts::frame::Frame;
 
 // T for a token, G for a transmit token, I for information.
 #[derive(Drop)]
@@ -52,12 +52,12 @@ pub fn address_of(p: u8) -> u64
     p as u64 + 1
 }
 
-pub fn address_or_none(w: Whom) -> u64
+pub fn address_or_none(w: Option<u8>) -> u64
     ensures { result ≡ address_or_none w }
 {
     match w {
-        Whom::Nobody => 0,
-        Whom::Member(p) => address_of(p),
+        None => 0,
+        Some(p) => address_of(p),
     }
 }
 

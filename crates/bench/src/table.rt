@@ -132,7 +132,7 @@ pub fn hand(table: &mut [Station], h: Handing) -> Dispatch
     ensures { (result ≡ (handed h.n (hears h) h.frame h.from h.to h.to (get_or table.old h.to nobody)).sent)
         × (table.new ≡ delivered h.n (hears h) h.frame h.from h.to 0 table.old) }
 {
-    let mut reply = Dispatch::Nothing;
+    let mut reply = None;
     let mut p: usize = 0;
     loop {
         p = touched_from(&*table, p, h);
@@ -155,7 +155,7 @@ pub fn handing_of(g: Going) -> Handing
     let d = w.sent;
     let m = parts::live::seats(g.n);
     match d {
-        Dispatch::Sent { frame, to } => {
+        Some((frame, to)) => {
             let quiet = crate::delivery::is_quiet(frame);
             Handing {
                 n: g.n,
@@ -167,7 +167,7 @@ pub fn handing_of(g: Going) -> Handing
                 lost: false,
             }
         }
-        Dispatch::Nothing => Handing {
+        None => Handing {
             n: g.n,
             m,
             frame: Frame::Transmit(TransmitFrame {
@@ -194,8 +194,8 @@ pub fn goes_on(g: Going) -> bool
     let w = g.wire;
     let d = w.sent;
     match d {
-        Dispatch::Sent { frame: _, to: _ } => true,
-        Dispatch::Nothing => false,
+        Some((_, _)) => true,
+        None => false,
     }
 }
 

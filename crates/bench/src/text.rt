@@ -110,7 +110,7 @@ pub fn put_wire(out: &mut [u8], at: usize, w: Wire) -> usize
     ensures { (out.new ≡ laid out.old at (rows_text (rows_on w))) × (result ≡ at + length (rows_text (rows_on w))) }
 {
     let d = w.sent;
-    let Dispatch::Sent { frame, to } = d else {
+    let Some((frame, to)) = d else {
         return at;
     };
     let row = crate::rows::row_of(w.from, frame, to);

@@ -1,8 +1,6 @@
 -- What is counted of a run: its steps, and the number of the frame on the wire.
-use Rattle.std.specs.Prelude.{List, [], ◌∷◌, ℕ, suc}
-use Rattle.parts.specs.Frames.{number_of}
-use Rattle.parts.specs.declared.frame.Dispatch.{Dispatch}
-use Rattle.parts.specs.declared.frame.Dispatch.TheVariants.{Nothing, Sent}
+use Rattle.std.specs.Prelude.{List, [], ◌∷◌, ℕ, suc, None, Some}
+use Rattle.parts.specs.Frames.{number_of, Dispatch}
 use Rattle.bench.specs.Runs.{Event, stepped, queued}
 use Rattle.bench.specs.declared.ring.Bench.{Bench}
 
@@ -14,8 +12,8 @@ steps_in (queued from q ∷ es) = steps_in es
 
 -- the number of the frame on the wire, 0 with none
 abbrev pub number_in : Dispatch → ℕ
-number_in Nothing = 0
-number_in (Sent frame to) = number_of frame
+number_in None = 0
+number_in (Some (frame, to)) = number_of frame
 
 abbrev pub wire_number : Bench → ℕ
 wire_number b = number_in b.wire.sent

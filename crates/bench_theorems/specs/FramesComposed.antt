@@ -1,7 +1,6 @@
 -- A step delivers the frame on the wire: the wire is never empty.
-use Rattle.std.specs.Prelude.{◌≡◌, ℕ}
+use Rattle.std.specs.Prelude.{◌≡◌, ℕ, Some}
 use Rattle.parts.specs.declared.frame.Frame.{Frame}
-use Rattle.parts.specs.declared.frame.Dispatch.TheVariants.{Sent}
 use Rattle.bench.specs.Delivery.{deliver, step}
 use Rattle.bench.specs.declared.ring.Bench.{Bench}
 
@@ -9,5 +8,5 @@ use Rattle.bench.specs.declared.ring.Bench.{Bench}
 pub record Delivers (b : Bench) : Type 0 where
   pub frame : Frame
   pub to : ℕ
-  pub on_wire : b.wire.sent ≡ Sent frame to
+  pub on_wire : b.wire.sent ≡ Some (frame, to)
   pub delivers : step b ≡ deliver b frame to

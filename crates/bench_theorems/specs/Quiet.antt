@@ -1,21 +1,17 @@
 -- What a fault-free ring looks like between two steps: every live set is full; the sender waits for the frame on the wire; the
 -- sender of the frame before it waits for that one, which the frame on the wire acknowledges; everybody else is Idle.
-use Rattle.std.specs.Prelude.{◌≡◌, true, ℕ, ◌+◌, ◌-◌, ◌%◌, ◌^◌, ◌<◌, ◌≤◌, leb, length}
+use Rattle.std.specs.Prelude.{◌≡◌, true, ℕ, ◌+◌, ◌-◌, ◌%◌, ◌^◌, ◌<◌, ◌≤◌, leb, length, Option, None, Some}
 use Rattle.parts.specs.Choose.{pick}
 use Rattle.parts.specs.Live.{full, after}
 use Rattle.parts.specs.Frames.{number_of, next, fit}
 use Rattle.station.specs.Stations.{state_of, awaited_of, head}
 use Rattle.sent.specs.Round.{priority_of}
 use Rattle.parts.specs.declared.moves.State.TheVariants.{Idle, Waiting}
-use Rattle.parts.specs.declared.frame.Whom.TheVariants.{Nobody}
 use Rattle.parts.specs.declared.frame.TokenFrame.{TokenFrame}
 use Rattle.parts.specs.declared.frame.TransmitFrame.{TransmitFrame}
 use Rattle.parts.specs.declared.frame.InformationFrame.{InformationFrame}
 use Rattle.parts.specs.declared.frame.Frame.{Frame}
 use Rattle.parts.specs.declared.frame.Frame.TheVariants.{Token, Transmit, Information}
-use Rattle.parts.specs.declared.frame.Dispatch.TheVariants.{Sent}
-use Rattle.station.specs.declared.station.Handled.{Handled}
-use Rattle.station.specs.declared.station.Handled.TheVariants.{Never, Last}
 use Rattle.station.specs.declared.station.Station.{Station}
 use Rattle.station_theorems.specs.Shaped.{WholeStation}
 use Rattle.bench.specs.Ring.{station_at}
@@ -40,8 +36,8 @@ pub record Member (n limit p : ℕ) (s : Station) : Type 0 where
 -- the station at p, the frame f to `to` being on the wire from `from`, and the frame before it having come from `before` (`from`
 -- itself where f is the first of all)
 pub data Stands (from before : ℕ) (f : Frame) (to p : ℕ) (s : Station) : Type 0 where
-  sender : p ≡ from → state_of s ≡ Waiting → awaited_of s ≡ Sent f to → Stands from before f to p s
-  last_sender : (p ≡ from → ⊥) → p ≡ before → state_of s ≡ Waiting → (g : Frame) → awaited_of s ≡ Sent g from → next (number_of g) ≡ number_of f
+  sender : p ≡ from → state_of s ≡ Waiting → awaited_of s ≡ Some (f, to) → Stands from before f to p s
+  last_sender : (p ≡ from → ⊥) → p ≡ before → state_of s ≡ Waiting → (g : Frame) → awaited_of s ≡ Some (g, from) → next (number_of g) ≡ number_of f
       → Stands from before f to p s
   at_rest : (p ≡ from → ⊥) → (p ≡ before → ⊥) → state_of s ≡ Idle → Stands from before f to p s
 
@@ -51,7 +47,7 @@ pub data Stands (from before : ℕ) (f : Frame) (to p : ℕ) (s : Station) : Typ
 -- master, and the stations up to it have been asked; a transmit token from its master to the station that it names; information.
 -- No frame names a failing station
 pub data Phase (n from to : ℕ) : Frame → Type 0 where
-  token : (t : TokenFrame) → t.failing ≡ Nobody → to ≡ after n from → offset n t.master t.named ≤ offset n t.master from
+  token : (t : TokenFrame) → t.failing ≡ None → to ≡ after n from → offset n t.master t.named ≤ offset n t.master from
       → Phase n from to (Token t)
   transmit : (t : TransmitFrame) → t.master ≡ from → to ≡ t.named → Phase n from to (Transmit t)
   information : (i : InformationFrame) → Phase n from to (Information i)
@@ -71,9 +67,9 @@ pub data Offers (heads : ℕ → ℕ) : Frame → Type 0 where
 -- ---- how long ago a station last handled a frame
 
 -- none, or one that lies between 1 and `most` numbers before k
-pub data Behind (k most : ℕ) : Handled → Type 0 where
-  never : Behind k most Never
-  ago : (j e : ℕ) → 1 ≤ e → e ≤ most → k ≡ (j + e) % 2 ^ 16 → Behind k most (Last j)
+pub data Behind (k most : ℕ) : Option ℕ → Type 0 where
+  never : Behind k most None
+  ago : (j e : ℕ) → 1 ≤ e → e ≤ most → k ≡ (j + e) % 2 ^ 16 → Behind k most (Some j)
 
 -- at most so many for the station at p: every round passes everybody, and a token has just passed those whom it asked. It is never
 -- more than 2n + 2, far below 65,536
@@ -107,5 +103,5 @@ pub record Quiet (limit : ℕ) (b : Bench) : Type 0 where
   pub table : length b.stations ≡ 64
   pub frame : Frame
   pub to : ℕ
-  pub on_wire : b.wire.sent ≡ Sent frame to
+  pub on_wire : b.wire.sent ≡ Some (frame, to)
   pub picture : Picture b.n limit (station_at b) b.wire.from frame to

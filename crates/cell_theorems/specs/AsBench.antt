@@ -1,5 +1,5 @@
 -- A cell beside the bench: the bench's events, frames and rows, and what a cell has of them.
-use Rattle.std.specs.Prelude.{ℕ, ◌<◌, ◌≡◌, List, [], ◌∷◌, ◌++◌, length, get_or}
+use Rattle.std.specs.Prelude.{ℕ, ◌<◌, ◌≡◌, List, [], ◌∷◌, ◌++◌, length, get_or, Some}
 use Rattle.codec.specs.Ring.{position, read_ring}
 use Rattle.packet_codec.specs.Packet.{wire_octets, read_packet}
 use Rattle.packet_codec.specs.declared.packet.Packet.{Packet}
@@ -7,7 +7,6 @@ use Rattle.packet_codec.specs.declared.packet.Packet.TheVariants.{Token, Transmi
 use Rattle.packet_codec.specs.declared.reading.Read.{Read}
 use Rattle.packet_codec.specs.declared.reading.Read.TheVariants.{Refused, Good}
 use Rattle.parts.specs.declared.frame.Frame.{Frame}
-use Rattle.parts.specs.declared.frame.Dispatch.TheVariants.{Sent}
 use Rattle.station.specs.Stations.{awaited_of}
 use Rattle.driver_buffers.specs.Places.{carried_in}
 use Rattle.driver_calls.specs.Calls.{ring_of, station_in, request_of}
@@ -77,7 +76,7 @@ pub record AsBench (file : List ℕ) (c : Cell) (b : Bench) : Type 0 where
   pub stations : (p : ℕ) → p < members file → station_in (c.node p).rec ≡ station_at b p
   pub frame : Frame
   pub to : ℕ
-  pub frame_is : b.wire.sent ≡ Sent frame to
+  pub frame_is : b.wire.sent ≡ Some (frame, to)
   pub information : List ℕ
   pub on_wire : OnWire (ring_of file) frame information c.wire.octets
   pub from_address : c.wire.from ≡ address_at file b.wire.from
@@ -103,7 +102,7 @@ pub record StepDone (file : List ℕ) (c c' : Cell) (s : HandedOn file c c') : T
   -- the packet on the wire then is the frame that the addressee's record awaits, with what its store had for it
   pub frame : Frame
   pub onward : ℕ
-  pub awaited : awaited_of (station_in (c'.node addressee).rec) ≡ Sent frame onward
+  pub awaited : awaited_of (station_in (c'.node addressee).rec) ≡ Some (frame, onward)
   pub composed : OnWire (ring_of file) frame (carried_in (c.node addressee).store frame) c'.wire.octets
 
 -- a queue call gives the bench's number

@@ -11,7 +11,7 @@ use Rattle.parts.specs.Frames.{flight}
 use Rattle.station.specs.Stations.{awaited_of}
 use Rattle.parts.specs.declared.list.Message.{Message}
 use Rattle.driver_calls.specs.Calls.{ring_of, station_in}
-use Rattle.waiting.specs.Waiting.{Spot, Until, shorts, informations, octets_on_wire}
+use Rattle.waiting.specs.Waiting.{Spot, Until, shorts, informations, octets_on_wire, is_at}
 use Rattle.cell_theorems.specs.Cell.{Transit, Cell, members, address_at, Asking, QueueCall, Act, handed, asked, Run, done, hand_on, ask}
 use Rattle.cell_theorems.specs.AsBench.{rows}
 
@@ -24,8 +24,7 @@ spot_in c p = record { station = p; place = lowest_free (all (station_in (c.node
 unfoldable pub own_in : List ℕ → Spot → Cell → Bool
 own_in file x c =
     eqb c.wire.from (address_at file x.station)
-    && ((flight (awaited_of (station_in (c.node x.station).rec))).on
-    && eqb (flight (awaited_of (station_in (c.node x.station).rec))).place x.place)
+    && is_at (flight (awaited_of (station_in (c.node x.station).rec))) x.place
 
 -- the packets composed before its own
 unfoldable pub before_in : {file : List ℕ} {c : Cell} {acts : List Act} {c' : Cell} → Spot → Run file c acts c' → List Transit

@@ -1,7 +1,6 @@
 -- The day: a ring of stations, and the frames on the wire.
-use Rattle.std.specs.Prelude.{List, [], ◌∷◌, ℕ, get_or}
-use Rattle.parts.specs.declared.frame.Dispatch.{Dispatch}
-use Rattle.parts.specs.declared.frame.Dispatch.TheVariants.{Nothing, Sent}
+use Rattle.std.specs.Prelude.{List, [], ◌∷◌, ℕ, get_or, None, Some}
+use Rattle.parts.specs.Frames.{Dispatch}
 use Rattle.station.specs.declared.station.Station.{Station}
 use Rattle.bench.specs.Ring.{nobody, ring_with}
 use Rattle.bench.specs.declared.ring.Bench.{Bench}
@@ -23,8 +22,8 @@ member_at d p = get_or d.stations p nobody
 
 -- what the station at p sends, as it joins the end of the wire
 unfoldable pub joining : ℕ → Dispatch → List Flying
-joining p Nothing = []
-joining p (Sent frame to) = record { from = p; frame = frame; to = to } ∷ []
+joining p None = []
+joining p (Some (frame, to)) = record { from = p; frame = frame; to = to } ∷ []
 
 -- as the bench begins: its stations, and the frame that was sent
 abbrev pub begun_by : Bench → Day

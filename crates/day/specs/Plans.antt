@@ -1,5 +1,5 @@
 -- What a record asks for: whom it hands a frame, and which station it calls.
-use Rattle.std.specs.Prelude.{Bool, true, false, List, [], ◌∷◌, ℕ, ltb, length}
+use Rattle.std.specs.Prelude.{Bool, true, false, List, [], ◌∷◌, ℕ, ltb, length, Option, None, Some}
 use Rattle.parts.specs.Live.{seats}
 use Rattle.bench.specs.Delivery.{is_quiet}
 use Rattle.bench.specs.Table.{no_frame}
@@ -9,7 +9,7 @@ use Rattle.capture.specs.declared.record.Event.TheVariants.{Delivered, LostForAd
 use Rattle.day.specs.Day.{most_frames}
 use Rattle.day.specs.declared.wire.Flying.{Flying}
 use Rattle.day.specs.declared.calls.Call.{Call}
-use Rattle.day.specs.declared.calls.Call.TheVariants.{NoCall, TimerCall, QueueCall}
+use Rattle.day.specs.declared.calls.Call.TheVariants.{TimerCall, QueueCall}
 use Rattle.day.specs.declared.plan.Plan.{Plan}
 
 -- nobody is handed anything
@@ -29,12 +29,12 @@ handing_for n wire LostForAll = no_handing
 handing_for n wire (Timer station) = no_handing
 handing_for n wire (Queue station request) = no_handing
 
-abbrev pub call_for : List Flying → Event → Call
-call_for wire Delivered = NoCall
-call_for wire LostForAddressee = NoCall
-call_for wire LostForAll = NoCall
-call_for wire (Timer station) = TimerCall (ltb (length wire) most_frames)
-call_for wire (Queue station request) = QueueCall request
+abbrev pub call_for : List Flying → Event → Option Call
+call_for wire Delivered = None
+call_for wire LostForAddressee = None
+call_for wire LostForAll = None
+call_for wire (Timer station) = Some (TimerCall (ltb (length wire) most_frames))
+call_for wire (Queue station request) = Some (QueueCall request)
 
 abbrev pub place_for : Event → ℕ
 place_for Delivered = 0
@@ -43,8 +43,8 @@ place_for LostForAll = 0
 place_for (Timer station) = station
 place_for (Queue station request) = station
 
-abbrev pub plan_of : Handing → ℕ → Call → Plan
+abbrev pub plan_of : Handing → ℕ → Option Call → Plan
 plan_of handing place call = record { handing = handing; place = place; call = call }
 
 abbrev pub no_plan : Plan
-no_plan = plan_of no_handing 0 NoCall
+no_plan = plan_of no_handing 0 None

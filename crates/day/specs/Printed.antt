@@ -1,12 +1,10 @@
 -- What is printed of a day.
-use Rattle.std.specs.Prelude.{Bool, List, [], ◌∷◌, ◌++◌, ℕ, zero, suc, take}
+use Rattle.std.specs.Prelude.{Bool, List, [], ◌∷◌, ◌++◌, ℕ, zero, suc, take, Option, None, Some}
 use Rattle.parts.specs.Choose.{pick}
 use Rattle.parts.specs.Live.{live_at, seats}
 use Rattle.station.specs.Stations.{state_of}
 use Rattle.station.specs.Queue.{queue_rule}
 use Rattle.parts.specs.declared.frame.Frame.{Frame}
-use Rattle.parts.specs.declared.frame.Whom.{Whom}
-use Rattle.parts.specs.declared.frame.Whom.TheVariants.{Nobody, Member}
 use Rattle.parts.specs.declared.live.Live.{Live}
 use Rattle.parts.specs.declared.moves.State.{State}
 use Rattle.parts.specs.declared.moves.State.TheVariants.{Offline, Idle, Waiting, Alone, Excluded}
@@ -40,9 +38,9 @@ unfoldable pub strike_text : ℕ → ℕ → List ℕ
 strike_text p q = text "struck " ++ (cell p space ++ (text "by " ++ cell q line_feed))
 
 -- whom it has newly struck, if anyone
-unfoldable pub struck_text : Whom → ℕ → List ℕ
-struck_text Nobody q = []
-struck_text (Member p) q = strike_text p q
+unfoldable pub struck_text : Option ℕ → ℕ → List ℕ
+struck_text None q = []
+struck_text (Some p) q = strike_text p q
 
 -- by the stations from the position p on, each once it has been handed the frame
 unfoldable pub strikes_text : ℕ → (ℕ → Bool) → Frame → ℕ → ℕ → ℕ → List Station → List ℕ

@@ -3,7 +3,7 @@ use Rattle.std.specs.Prelude.{Bool, false, ◌&&◌, List, [], ◌∷◌, ◌++�
 use Rattle.parts.specs.Choose.{pick}
 use Rattle.station.specs.Queue.{queue_rule}
 use Rattle.station.specs.Timer.{timer_rule}
-use Rattle.parts.specs.declared.frame.Dispatch.{Dispatch}
+use Rattle.parts.specs.Frames.{Dispatch}
 use Rattle.station.specs.declared.station.Answer.{Answer}
 use Rattle.bench.specs.Delivery.{handed, delivered, others, bystanders}
 use Rattle.bench.specs.Delivery.{is_sent}

@@ -1,15 +1,12 @@
 -- Who newly strikes at a frame that is handed round.
-use Rattle.std.specs.Prelude.{Bool, true, false, List, [], ◌++◌, ℕ, zero, suc, leb, eqb, get_or, replicate, set}
+use Rattle.std.specs.Prelude.{Bool, true, false, List, [], ◌++◌, ℕ, zero, suc, leb, eqb, get_or, replicate, set, Option, None, Some}
 use Rattle.parts.specs.Choose.{pick}
 use Rattle.parts.specs.Live.{live_at}
-use Rattle.parts.specs.Frames.{failing_of}
+use Rattle.parts.specs.Frames.{failing_of, Dispatch}
 use Rattle.parts.specs.Moves.{move_of, runs}
 use Rattle.parts.specs.declared.moves.Event.TheVariants.{Heard}
 use Rattle.station.specs.Stations.{state_of}
 use Rattle.station.specs.Heard.{checks}
-use Rattle.parts.specs.declared.frame.Dispatch.{Dispatch}
-use Rattle.parts.specs.declared.frame.Whom.{Whom}
-use Rattle.parts.specs.declared.frame.Whom.TheVariants.{Nobody, Member}
 use Rattle.parts.specs.declared.live.Live.{Live}
 use Rattle.station.specs.declared.station.Station.{Station}
 use Rattle.bench.specs.Ring.{nobody}
@@ -21,9 +18,9 @@ use Rattle.bench.specs.declared.table.Handing.{Handing}
 use Rattle.day.specs.Printed.{struck_text}
 use Rattle.day.specs.declared.strikes.Taken.{Taken}
 
-abbrev pub is_member : Whom → Bool
-is_member Nobody = false
-is_member (Member p) = true
+abbrev pub is_member : Option ℕ → Bool
+is_member None = false
+is_member (Some p) = true
 
 -- whether the station at p hears what is handed round and does not refuse it
 unfoldable pub heeds : Station → ℕ → Handing → Bool
@@ -56,11 +53,11 @@ strikers_of l zero ss h = l
 strikers_of l (suc k) ss h = marked (strikers_of l k ss h) k (strikes_at ss h k)
 
 -- the line of a station that is marked
-abbrev pub mark_text : Live → Whom → ℕ → List ℕ
+abbrev pub mark_text : Live → Option ℕ → ℕ → List ℕ
 mark_text l w p = pick (live_at l p) (struck_text w p) []
 
 -- the lines of those that are marked, of k positions from p on
-unfoldable pub marks_text : Live → Whom → ℕ → ℕ → List ℕ
+unfoldable pub marks_text : Live → Option ℕ → ℕ → ℕ → List ℕ
 marks_text l w zero p = []
 marks_text l w (suc k) p = mark_text l w p ++ marks_text l w k (suc p)
 

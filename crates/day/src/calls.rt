@@ -4,7 +4,7 @@ ghost use Rattle.parts.specs.Choose.{pick};
 ghost use Rattle.bench.specs.Delivery.{is_sent};
 ghost use Rattle.day.specs.Calls.{refused_by, timed, called_by, told_by, kept_by};
 
-use parts::frame::{Dispatch, Whom};
+use parts::frame::Dispatch;
 use parts::request::Request;
 use station::station::{Answer, Station};
 
@@ -12,7 +12,6 @@ use station::station::{Answer, Station};
 #[derive(Drop)]
 #[derive(Clone, Copy)]
 pub enum Call {
-    NoCall,
     TimerCall(bool),
     QueueCall(Request),
 }
@@ -23,7 +22,7 @@ pub enum Call {
 pub struct Told {
     pub number: u32,
     pub sent: Dispatch,
-    pub struck: Whom,
+    pub struck: Option<u8>,
 }
 
 #[derive(Drop)]
@@ -45,8 +44,8 @@ pub fn is_sent(d: Dispatch) -> bool
     ensures { result ≡ is_sent d }
 {
     match d {
-        Dispatch::Sent { frame: _, to: _ } => true,
-        Dispatch::Nothing => false,
+        Some((_, _)) => true,
+        None => false,
     }
 }
 
@@ -58,8 +57,8 @@ pub fn refused(s: Station, number: u32) -> Answered
         station: s,
         told: Told {
             number,
-            sent: Dispatch::Nothing,
-            struck: Whom::Nobody,
+            sent: None,
+            struck: None,
         },
     }
 }
@@ -94,11 +93,13 @@ pub fn timed(s: Station, room: bool, a: Answer) -> Answered
     }
 }
 
-pub fn do_call(s: Station, c: Call) -> Answered
+pub fn do_call(s: Station, c: Option<Call>) -> Answered
     ensures { result ≡ called_by s c }
 {
-    match c {
-        Call::NoCall => refused(s, 0),
+    let Some(call) = c else {
+        return refused(s, 0);
+    };
+    match call {
         Call::TimerCall(room) => {
             let a = s.timer();
             timed(s, room, a)
@@ -112,7 +113,7 @@ pub fn do_call(s: Station, c: Call) -> Answered
 }
 
 // What the call tells.
-pub fn told_by(s: Station, c: Call) -> Told
+pub fn told_by(s: Station, c: Option<Call>) -> Told
     ensures { result ≡ told_by s c }
 {
     let d = do_call(s, c);
@@ -120,7 +121,7 @@ pub fn told_by(s: Station, c: Call) -> Told
 }
 
 // The station that it leaves.
-pub fn kept_by(s: Station, c: Call) -> Kept
+pub fn kept_by(s: Station, c: Option<Call>) -> Kept
     ensures { result ≡ kept_by s c }
 {
     let d = do_call(s, c);

@@ -15,7 +15,7 @@ use parts::frame::{Frame, TransmitFrame};
 pub struct Plan {
     pub handing: Handing,
     pub place: usize,
-    pub call: Call,
+    pub call: Option<Call>,
 }
 
 // Nobody is handed anything.
@@ -75,21 +75,21 @@ pub fn handing_for(n: u8, w: Frames, e: Event) -> Handing
     }
 }
 
-pub fn call_for(w: Frames, e: Event) -> Call
+pub fn call_for(w: Frames, e: Event) -> Option<Call>
     ensures { result ≡ call_for (flying_of w) e }
 {
     match e {
-        Event::Delivered => Call::NoCall,
-        Event::LostForAddressee => Call::NoCall,
-        Event::LostForAll => Call::NoCall,
+        Event::Delivered => None,
+        Event::LostForAddressee => None,
+        Event::LostForAll => None,
         Event::Timer { station: _ } => {
             let room = crate::wire::count(w) < 64;
-            Call::TimerCall(room)
+            Some(Call::TimerCall(room))
         }
         Event::Queue {
             station: _,
             request,
-        } => Call::QueueCall(request),
+        } => Some(Call::QueueCall(request)),
     }
 }
 
@@ -115,6 +115,6 @@ pub fn no_plan() -> Plan
     Plan {
         handing,
         place: 0,
-        call: Call::NoCall,
+        call: None,
     }
 }

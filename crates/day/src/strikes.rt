@@ -3,7 +3,7 @@ ghost use Rattle.std.specs.Prelude.{◌≡◌};
 ghost use Rattle.day.specs.Strikes.{heeds, strikes_by, span, no_strikers, marked};
 
 use bench::table::Handing;
-use parts::frame::{Dispatch, Whom};
+use parts::frame::Dispatch;
 use parts::live::Live;
 use parts::moves::Event;
 use station::station::Station;
@@ -40,7 +40,7 @@ pub fn strikes(s: Station, p: usize, h: Handing) -> bool
 {
     let frame = h.frame;
     let failing = parts::frame::failing_of(frame);
-    let Whom::Member(q) = failing else {
+    let Some(q) = failing else {
         return false;
     };
     if !heeds(s, p, h) {

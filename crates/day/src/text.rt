@@ -11,7 +11,6 @@ use crate::strikes::Taken;
 use crate::wire::{Flying, Frames};
 use bench::ring::Wire;
 use bench::table::Handing;
-use parts::frame::Whom;
 use parts::live::Live;
 
 // The station at `q` has newly struck the one at `p`.
@@ -26,18 +25,18 @@ pub fn put_strike(out: &mut [u8], at: usize, p: usize, q: usize) -> usize
 }
 
 // The same where it has struck one.
-pub fn put_struck(out: &mut [u8], at: usize, w: Whom, q: usize) -> usize
+pub fn put_struck(out: &mut [u8], at: usize, w: Option<u8>, q: usize) -> usize
     requires { at + 22 ≤ length out.old }
     ensures { (out.new ≡ laid out.old at (struck_text w q)) × (result ≡ at + length (struck_text w q)) }
 {
-    let Whom::Member(p) = w else {
+    let Some(p) = w else {
         return at;
     };
     put_strike(&mut *out, at, p as usize, q)
 }
 
 // The same where the station at `q` is marked.
-pub fn put_mark(out: &mut [u8], at: usize, l: Live, w: Whom, q: usize) -> usize
+pub fn put_mark(out: &mut [u8], at: usize, l: Live, w: Option<u8>, q: usize) -> usize
     requires { at + 22 ≤ length out.old }
     ensures { (out.new ≡ laid out.old at (mark_text l w q)) × (result ≡ at + length (mark_text l w q)) }
 {
@@ -48,7 +47,7 @@ pub fn put_mark(out: &mut [u8], at: usize, l: Live, w: Whom, q: usize) -> usize
 }
 
 // Those that are marked, in ring order.
-pub fn put_marks(out: &mut [u8], at: usize, l: Live, w: Whom, m: usize) -> usize
+pub fn put_marks(out: &mut [u8], at: usize, l: Live, w: Option<u8>, m: usize) -> usize
     requires { at + m * 22 ≤ length out.old }
     ensures { (out.new ≡ laid out.old at (marks_text l w m 0)) × (result ≡ at + length (marks_text l w m 0)) }
 {

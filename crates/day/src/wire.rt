@@ -81,8 +81,8 @@ pub fn join(w: Frames, p: u8, d: Dispatch) -> Frames
     ensures { flying_of result ≡ take most_frames (flying_of w ++ joining p d) }
 {
     match d {
-        Dispatch::Nothing => w,
-        Dispatch::Sent { frame, to } => {
+        None => w,
+        Some((frame, to)) => {
             let f = Flying { from: p, frame, to };
             push(w, f)
         }

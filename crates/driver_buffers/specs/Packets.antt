@@ -1,28 +1,25 @@
 -- Frames over ring positions and packets over addresses.
-use Rattle.std.specs.Prelude.{ℕ, ◌%◌, List, [], eqb, get_or}
+use Rattle.std.specs.Prelude.{ℕ, ◌%◌, List, [], eqb, get_or, Option, None, Some}
 use Rattle.codec.specs.Ring.{position}
 use Rattle.packet_codec.specs.Packet.{token, transmit, information, size, packet_octets}
 use Rattle.packet_codec.specs.declared.packet.Packet.{Packet}
 use Rattle.packet_codec.specs.declared.packet.Packet.TheVariants.{Token as TokenOf, Transmit as TransmitOf, Information as InformationOf}
 use Rattle.parts.specs.Choose.{pick}
-use Rattle.parts.specs.declared.frame.Whom.{Whom}
-use Rattle.parts.specs.declared.frame.Whom.TheVariants.{Nobody, Member}
 use Rattle.parts.specs.declared.frame.Frame.{Frame}
 use Rattle.parts.specs.declared.frame.Frame.TheVariants.{Token, Transmit, Information}
-use Rattle.parts.specs.declared.frame.Dispatch.{Dispatch}
-use Rattle.parts.specs.declared.frame.Dispatch.TheVariants.{Nothing, Sent}
+use Rattle.parts.specs.Frames.{Dispatch}
 
 -- the address of a ring position: 0 where there is no such member
 abbrev pub address_of : List ℕ → ℕ → ℕ
 address_of ring p = get_or ring p 0
 
 -- 0 is nobody's address
-abbrev pub whom_address : List ℕ → Whom → ℕ
-whom_address ring Nobody = 0
-whom_address ring (Member p) = address_of ring p
+abbrev pub whom_address : List ℕ → Option ℕ → ℕ
+whom_address ring None = 0
+whom_address ring (Some p) = address_of ring p
 
-unfoldable pub whom_at : List ℕ → ℕ → Whom
-whom_at ring a = pick (eqb a 0) Nobody (Member (position ring a))
+unfoldable pub whom_at : List ℕ → ℕ → Option ℕ
+whom_at ring a = pick (eqb a 0) None (Some (position ring a))
 
 -- the packet of a frame
 unfoldable pub packet_of : List ℕ → Frame → Packet
@@ -44,14 +41,14 @@ frame_of ring (InformationOf h) =
 
 -- the octets of what is sent, with the information that it carries
 unfoldable pub sent_octets : List ℕ → Dispatch → List ℕ → List ℕ
-sent_octets ring Nothing info = []
-sent_octets ring (Sent frame to) info = packet_octets (packet_of ring frame) info
+sent_octets ring None info = []
+sent_octets ring (Some (frame, to)) info = packet_octets (packet_of ring frame) info
 
 -- how many they are, and to whom: 0 and 0 where nothing is sent
 unfoldable pub sent_size : List ℕ → Dispatch → ℕ
-sent_size ring Nothing = 0
-sent_size ring (Sent frame to) = size (packet_of ring frame)
+sent_size ring None = 0
+sent_size ring (Some (frame, to)) = size (packet_of ring frame)
 
 unfoldable pub sent_to : List ℕ → Dispatch → ℕ
-sent_to ring Nothing = 0
-sent_to ring (Sent frame to) = address_of ring to
+sent_to ring None = 0
+sent_to ring (Some (frame, to)) = address_of ring to

@@ -1,14 +1,12 @@
 -- The store: 16 send places, then 16 receive places, of 1,492 octets each.
-use Rattle.std.specs.Prelude.{ℕ, ◌+◌, ◌*◌, Bool, List, [], ◌∷◌, ltb, leb, eqb, length, take, drop}
+use Rattle.std.specs.Prelude.{ℕ, ◌+◌, ◌*◌, Bool, List, [], ◌∷◌, ltb, leb, eqb, length, take, drop, Option, None, Some}
 use Rattle.codec.specs.Octets.{laid}
 use Rattle.parts.specs.Choose.{pick, all_of}
 use Rattle.records.specs.Layout.{place_length, receive_places, store_length}
-use Rattle.station.specs.declared.station.Payload.{Payload}
-use Rattle.station.specs.declared.station.Payload.TheVariants.{NoPayload, Of}
+use Rattle.parts.specs.declared.list.Message.{Message}
 use Rattle.parts.specs.declared.frame.Frame.{Frame}
 use Rattle.parts.specs.declared.frame.Frame.TheVariants.{Token, Transmit, Information}
-use Rattle.parts.specs.declared.frame.Dispatch.{Dispatch}
-use Rattle.parts.specs.declared.frame.Dispatch.TheVariants.{Nothing, Sent}
+use Rattle.parts.specs.Frames.{Dispatch}
 
 -- n octets have room in a place of a store of so many octets; in a whole station's calls they always have
 unfoldable pub fits_place : ℕ → ℕ → ℕ → Bool
@@ -25,19 +23,19 @@ put_place store place payload = pick (fits_place (length store) place (length pa
 -- ---- what a station's answer moves
 
 -- a payload that joins the send list
-unfoldable pub queued : List ℕ → Payload → List ℕ → List ℕ
-queued store NoPayload payload = store
-queued store (Of m) payload = put_place store m.place payload
+unfoldable pub queued : List ℕ → Option Message → List ℕ → List ℕ
+queued store None payload = store
+queued store (Some m) payload = put_place store m.place payload
 
 -- one that joins the receive list
-unfoldable pub received : List ℕ → Payload → List ℕ → List ℕ
-received store NoPayload payload = store
-received store (Of m) payload = put_place store (receive_places + m.place) payload
+unfoldable pub received : List ℕ → Option Message → List ℕ → List ℕ
+received store None payload = store
+received store (Some m) payload = put_place store (receive_places + m.place) payload
 
 -- one that is taken
-unfoldable pub taken : List ℕ → Payload → List ℕ
-taken store NoPayload = []
-taken store (Of m) = in_place store (receive_places + m.place) m.length
+unfoldable pub taken : List ℕ → Option Message → List ℕ
+taken store None = []
+taken store (Some m) = in_place store (receive_places + m.place) m.length
 
 -- the information of a frame that is sent, from its message's place
 unfoldable pub carried_in : List ℕ → Frame → List ℕ
@@ -46,5 +44,5 @@ carried_in store (Transmit t) = []
 carried_in store (Information i) = in_place store i.place i.length
 
 unfoldable pub information_of : List ℕ → Dispatch → List ℕ
-information_of store Nothing = []
-information_of store (Sent frame to) = carried_in store frame
+information_of store None = []
+information_of store (Some (frame, to)) = carried_in store frame

@@ -18,7 +18,7 @@ ghost use Rattle.driver_buffers.specs.Packets.{
 
 use packet_codec::packet::{Head, Packet, Short};
 use packet_codec::writing::{lay_information, lay_short};
-use parts::frame::{Dispatch, Frame, InformationFrame, TokenFrame, TransmitFrame, Whom};
+use parts::frame::{Dispatch, Frame, InformationFrame, TokenFrame, TransmitFrame};
 
 // The address of a ring position: 0 where there is no such member.
 pub fn address_of(ring: &[u64], p: u8) -> u64
@@ -28,12 +28,12 @@ pub fn address_of(ring: &[u64], p: u8) -> u64
     if i < ring.len() { ring[i] } else { 0 }
 }
 
-pub fn whom_address(ring: &[u64], w: Whom) -> u64
+pub fn whom_address(ring: &[u64], w: Option<u8>) -> u64
     ensures { result ≡ whom_address ring.now w }
 {
     match w {
-        Whom::Nobody => 0,
-        Whom::Member(p) => address_of(ring, p),
+        None => 0,
+        Some(p) => address_of(ring, p),
     }
 }
 
@@ -45,14 +45,14 @@ pub fn seat(ring: &[u64], address: u64) -> u8
     codec::ring::position(ring, address) as u8
 }
 
-pub fn whom_at(ring: &[u64], address: u64) -> Whom
+pub fn whom_at(ring: &[u64], address: u64) -> Option<u8>
     requires { length ring.now ≤ 64 }
     ensures { result ≡ whom_at ring.now address }
 {
     if address == 0 {
-        return Whom::Nobody;
+        return None;
     }
-    Whom::Member(seat(ring, address))
+    Some(seat(ring, address))
 }
 
 // The packet of a frame.
@@ -151,8 +151,8 @@ pub fn compose(out: &mut [u8], ring: &[u64], d: Dispatch, information: &[u8])
     ensures { out.new ≡ laid out.old 0 (sent_octets ring.now d information.now) }
 {
     match d {
-        Dispatch::Nothing => {}
-        Dispatch::Sent { frame, to: _ } => {
+        None => {}
+        Some((frame, _)) => {
             let p = packet_of(ring, frame);
             lay(out, p, information);
         }
@@ -163,8 +163,8 @@ pub fn sent_size(ring: &[u64], d: Dispatch) -> u64
     ensures { result ≡ sent_size ring.now d }
 {
     match d {
-        Dispatch::Nothing => 0,
-        Dispatch::Sent { frame, to: _ } => packet_of(ring, frame).size() as u64,
+        None => 0,
+        Some((frame, _)) => packet_of(ring, frame).size() as u64,
     }
 }
 
@@ -172,7 +172,7 @@ pub fn sent_to(ring: &[u64], d: Dispatch) -> u64
     ensures { result ≡ sent_to ring.now d }
 {
     match d {
-        Dispatch::Nothing => 0,
-        Dispatch::Sent { frame: _, to } => address_of(ring, to),
+        None => 0,
+        Some((_, to)) => address_of(ring, to),
     }
 }

@@ -13,8 +13,8 @@ ghost use Rattle.driver_buffers.specs.Places.{
 
 use codec::octets::copy;
 use parts::frame::{Dispatch, Frame};
+use parts::list::Message;
 use records::layout::{PLACE, RECEIVE_PLACES, STORE};
-use station::station::Payload;
 
 // Whether `n` octets have room in a place of a store of `store` octets.
 pub fn fits_place(store: usize, place: usize, n: usize) -> bool
@@ -52,32 +52,32 @@ pub fn put_place(store: &mut [u8], place: usize, payload: &[u8])
 }
 
 // A payload that joins the send list.
-pub fn put_queued(store: &mut [u8], p: Payload, payload: &[u8])
+pub fn put_queued(store: &mut [u8], p: Option<Message>, payload: &[u8])
     ensures { store.new ≡ queued store.old p payload.now }
 {
     match p {
-        Payload::NoPayload => {}
-        Payload::Of(m) => put_place(store, m.place as usize, payload),
+        None => {}
+        Some(m) => put_place(store, m.place as usize, payload),
     }
 }
 
 // One that joins the receive list.
-pub fn put_received(store: &mut [u8], p: Payload, payload: &[u8])
+pub fn put_received(store: &mut [u8], p: Option<Message>, payload: &[u8])
     ensures { store.new ≡ received store.old p payload.now }
 {
     match p {
-        Payload::NoPayload => {}
-        Payload::Of(m) => put_place(store, RECEIVE_PLACES + m.place as usize, payload),
+        None => {}
+        Some(m) => put_place(store, RECEIVE_PLACES + m.place as usize, payload),
     }
 }
 
 // One that is taken.
-pub fn taken_part(store: &[u8], p: Payload) -> &[u8]
+pub fn taken_part(store: &[u8], p: Option<Message>) -> &[u8]
     ensures { result.now ≡ taken store.now p }
 {
     match p {
-        Payload::NoPayload => &store[..0],
-        Payload::Of(m) => in_place(store, RECEIVE_PLACES + m.place as usize, m.length as usize),
+        None => &store[..0],
+        Some(m) => in_place(store, RECEIVE_PLACES + m.place as usize, m.length as usize),
     }
 }
 
@@ -96,7 +96,7 @@ pub fn information_of(store: &[u8], d: Dispatch) -> &[u8]
     ensures { result.now ≡ information_of store.now d }
 {
     match d {
-        Dispatch::Nothing => &store[..0],
-        Dispatch::Sent { frame, to: _ } => carried_in(store, frame),
+        None => &store[..0],
+        Some((frame, _)) => carried_in(store, frame),
     }
 }

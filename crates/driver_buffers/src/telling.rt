@@ -1,14 +1,12 @@
 // What a driver is told.
-ghost use Rattle.std.specs.Prelude.{◌≡◌, ◌+◌, ◌≤◌, length};
+ghost use Rattle.std.specs.Prelude.{◌≡◌, ◌+◌, ◌≤◌, length, None};
 ghost use Rattle.codec.specs.Octets.{laid};
 ghost use Rattle.parts.specs.Messages.{none};
-ghost use Rattle.parts.specs.declared.frame.Whom.TheVariants.{Nobody};
 ghost use Rattle.driver_buffers.specs.Telling.{message_told, gone_told, told_of, taken_told};
 
 use crate::packets::{address_of, sent_size, sent_to, whom_address};
-use parts::frame::{Dispatch, Whom};
+use parts::frame::Dispatch;
 use parts::list::{Message, Messages, count};
-use station::station::Payload;
 
 // Tells a message's other end, priority, channel, length and place, from a position on.
 pub fn tell_message(told: &mut [u64], at: usize, ring: &[u64], m: Message)
@@ -37,7 +35,7 @@ pub fn tell_gone(told: &mut [u64], ring: &[u64], gone: Messages)
 }
 
 // Tells what a call tells. Numbers beyond stay.
-pub fn tell(told: &mut [u64], ring: &[u64], sent: Dispatch, struck: Whom, gone: Messages)
+pub fn tell(told: &mut [u64], ring: &[u64], sent: Dispatch, struck: Option<u8>, gone: Messages)
     requires { 84 ≤ length told.old }
     ensures { told.new ≡ laid told.old 0 (told_of ring.now sent struck gone) }
 {
@@ -51,7 +49,7 @@ pub fn tell(told: &mut [u64], ring: &[u64], sent: Dispatch, struck: Whom, gone: 
 // Tells a frame alone: nobody is struck, and no message given up.
 pub fn tell_sent(told: &mut [u64], ring: &[u64], sent: Dispatch)
     requires { 84 ≤ length told.old }
-    ensures { told.new ≡ laid told.old 0 (told_of ring.now sent Nobody none) }
+    ensures { told.new ≡ laid told.old 0 (told_of ring.now sent None none) }
 {
     told[0] = sent_size(ring, sent);
     told[1] = sent_to(ring, sent);
@@ -60,12 +58,12 @@ pub fn tell_sent(told: &mut [u64], ring: &[u64], sent: Dispatch)
 }
 
 // What take tells.
-pub fn tell_taken(ring: &[u64], p: Payload) -> [u64; 4]
+pub fn tell_taken(ring: &[u64], p: Option<Message>) -> [u64; 4]
     ensures { result ≡ taken_told ring.now p }
 {
     match p {
-        Payload::NoPayload => [0, 0, 0, 0],
-        Payload::Of(m) => {
+        None => [0, 0, 0, 0],
+        Some(m) => {
             let other = address_of(ring, m.other);
             [other, m.priority as u64, m.channel as u64, m.length as u64]
         }

@@ -1,6 +1,6 @@
 -- What each call of a driver gives back and leaves: the number, the record, the store, the buffer and what is told, on success and on
 -- refusal. Each is the station's rule on the station that the record holds.
-use Rattle.std.specs.Prelude.{ℕ, ◌≡◌, Bool, true, not, List, [], ◌∷◌, ltb, leb, eqb, length, take}
+use Rattle.std.specs.Prelude.{ℕ, ◌≡◌, Bool, true, not, List, [], ◌∷◌, ltb, leb, eqb, length, take, Option, None, Some}
 use Rattle.codec.specs.Order.{first_of}
 use Rattle.codec.specs.Octets.{laid}
 use Rattle.codec.specs.Ring.{Ring, position, is_member, read_ring, listens}
@@ -20,8 +20,7 @@ use Rattle.station.specs.Take.{take_rule}
 use Rattle.parts.specs.declared.moves.Event.TheVariants.{Heard}
 use Rattle.parts.specs.declared.request.Request.{Request}
 use Rattle.station.specs.declared.station.Station.{Station}
-use Rattle.station.specs.declared.station.Payload.{Payload}
-use Rattle.station.specs.declared.station.Payload.TheVariants.{NoPayload, Of}
+use Rattle.parts.specs.declared.list.Message.{Message}
 use Rattle.station.specs.declared.station.Answer.{Answer}
 use Rattle.station.specs.declared.rules.deeds.Verdict.{Verdict}
 use Rattle.records.specs.Layout.{own_at, record_length, store_length}
@@ -157,12 +156,12 @@ abbrev pub frame_answer : List ℕ → ℕ → ℕ → List ℕ → Answer
 frame_answer rec from to packet = packet_rule (station_in rec) (ring_in rec) from to packet
 
 -- the information of a heard frame whose message is stored
-unfoldable pub heard_information : List ℕ → Payload → List ℕ
-heard_information packet NoPayload = []
-heard_information packet (Of m) = information_in packet m.length
+unfoldable pub heard_information : List ℕ → Option Message → List ℕ
+heard_information packet None = []
+heard_information packet (Some m) = information_in packet m.length
 
 -- a heard message goes into its receive place; every other octet stays
-abbrev pub store_heard : List ℕ → List ℕ → Payload → List ℕ
+abbrev pub store_heard : List ℕ → List ℕ → Option Message → List ℕ
 store_heard store packet p = received store p (heard_information packet p)
 
 pub record Hearing (rec store : List ℕ) (from to : ℕ) (packet out told : List ℕ) (r : ℕ) (rec' store' out' told' : List ℕ) : Type 0 where

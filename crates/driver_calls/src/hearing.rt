@@ -8,10 +8,11 @@ use driver_buffers::packets::{frame_of, seat};
 use driver_buffers::places::{information_of, put_received};
 use packet_codec::packet::Packet;
 use packet_codec::reading::{Read, number_of, read_packet};
+use parts::list::Message;
 use parts::moves::Event;
 use records::record::open;
 use station::rules::deeds::Verdict;
-use station::station::{Payload, Station};
+use station::station::Station;
 use wholeness::whole::whole;
 
 // A call that may send: a frame is heard from one address to another.
@@ -24,12 +25,12 @@ pub enum Call {
 }
 
 // The information of a heard frame whose message is stored.
-pub fn heard_information(packet: &[u8], p: Payload) -> &[u8]
+pub fn heard_information(packet: &[u8], p: Option<Message>) -> &[u8]
     ensures { result.now ≡ heard_information packet.now p }
 {
     match p {
-        Payload::NoPayload => &packet[..0],
-        Payload::Of(m) => Packet::information_in(packet, m.length),
+        None => &packet[..0],
+        Some(m) => Packet::information_in(packet, m.length),
     }
 }
 

@@ -1,7 +1,6 @@
 // Calls that may send: what an answer leaves in the buffers, start and timer.
-ghost use Rattle.std.specs.Prelude.{◌≡◌, ◌≤◌, length};
+ghost use Rattle.std.specs.Prelude.{◌≡◌, ◌≤◌, length, None};
 ghost use Rattle.parts.specs.Messages.{none};
-ghost use Rattle.parts.specs.declared.frame.Whom.TheVariants.{Nobody};
 ghost use Rattle.station.specs.Deeds.{carried_out, done_by};
 ghost use Rattle.records.specs.Layout.{own_at, place_length, record_length};
 ghost use Rattle.records.specs.Fields.{turn_octets};
@@ -17,11 +16,12 @@ use driver_buffers::packets::compose;
 use driver_buffers::places::information_of;
 use driver_buffers::telling::{tell, tell_sent};
 use packet_codec::packet::Packet;
+use parts::list::Message;
 use records::layout::STORE;
 use records::record::{open, save};
 use records::turn::put_turn;
 use station::rules::deeds::Verdict;
-use station::station::{Payload, Station};
+use station::station::Station;
 use wholeness::whole::whole;
 
 // Writes what a call leaves that changes the turn alone: the frame, the turn, and what is told.
@@ -35,7 +35,7 @@ pub fn settle_turn(
     v: Verdict,
 )
     requires { (record_length ≤ length rec.old) × ((longest_packet ≤ length out.old) × (length information.now ≤ place_length)) }
-    ensures { (rec.new ≡ laid rec.old own_at (turn_octets own v.turn)) × ((out.new ≡ laid out.old 0 (sent_octets ring.now v.sent information.now)) × (told.new ≡ laid told.old 0 (told_of ring.now v.sent Nobody none))) }
+    ensures { (rec.new ≡ laid rec.old own_at (turn_octets own v.turn)) × ((out.new ≡ laid out.old 0 (sent_octets ring.now v.sent information.now)) × (told.new ≡ laid told.old 0 (told_of ring.now v.sent None none))) }
 {
     let sent = v.sent;
     compose(out, ring, sent, information);
@@ -53,7 +53,7 @@ pub fn settle_all(
     information: &[u8],
     s: Station,
     v: Verdict,
-) -> Payload
+) -> Option<Message>
     requires { (record_length ≤ length rec.old) × ((longest_packet ≤ length out.old) × (length information.now ≤ place_length)) }
     ensures { (result ≡ (carried_out s v).payload) × Left (carried_out s v) ring.now information.now rec.old out.old told.old rec.new out.new told.new }
 {
@@ -77,13 +77,13 @@ pub fn settle(
     information: &[u8],
     s: Station,
     v: Verdict,
-) -> Payload
+) -> Option<Message>
     requires { Holds rec.old s × ((longest_packet ≤ length out.old) × (length information.now ≤ place_length)) }
     ensures { (result ≡ (done_by s v).payload) × Left (done_by s v) ring.now information.now rec.old out.old told.old rec.new out.new told.new }
 {
     if v.alone {
         settle_turn(rec, out, told, ring, information, s.own, v);
-        return Payload::NoPayload;
+        return None;
     }
     settle_all(rec, out, told, ring, information, s, v)
 }

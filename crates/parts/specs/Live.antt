@@ -1,9 +1,7 @@
 -- The live set, and "the successor of a station is the next live one in ring order, cyclically".
-use Rattle.std.specs.Prelude.{ℕ, zero, suc, ◌+◌, ◌-◌, Bool, true, false, ◌++◌, replicate, nat_lt, slice_index_or, slice_set}
+use Rattle.std.specs.Prelude.{ℕ, zero, suc, ◌+◌, ◌-◌, Bool, true, false, ◌++◌, replicate, nat_lt, slice_index_or, slice_set, Option, None, Some}
 use Rattle.parts.specs.Choose.{pick}
 use Rattle.parts.specs.declared.live.Live.{Live}
-use Rattle.parts.specs.declared.frame.Whom.{Whom}
-use Rattle.parts.specs.declared.frame.Whom.TheVariants.{Nobody, Member}
 
 abbrev pub live_at : Live → ℕ → Bool
 live_at l p = slice_index_or l.on p false
@@ -34,5 +32,5 @@ unfoldable pub successor : Live → ℕ → ℕ → ℕ
 successor l n p = seek l n p (n - 1) p
 
 -- a station is newly struck if it was live
-unfoldable pub newly : Live → ℕ → Whom
-newly l p = pick (live_at l p) (Member p) Nobody
+unfoldable pub newly : Live → ℕ → Option ℕ
+newly l p = pick (live_at l p) (Some p) None

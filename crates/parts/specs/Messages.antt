@@ -1,10 +1,9 @@
 -- Messages and their lists.
-use Rattle.std.specs.Prelude.{◌≡◌, ℕ, zero, suc, ◌+◌, ◌-◌, ◌≤◌, Bool, true, false, not, ◌&&◌, List, [], ◌∷◌, ◌++◌, length, take, replicate, ◌==◌, nat_lt, slice_index_or, slice_set}
+use Rattle.std.specs.Prelude.{◌≡◌, ℕ, zero, suc, ◌+◌, ◌-◌, ◌≤◌, Bool, true, false, not, ◌&&◌, List, [], ◌∷◌, ◌++◌, length, take, replicate, ◌==◌, nat_lt, slice_index_or, slice_set, Option, None, Some}
+use Rattle.std.specs.Option.{option_map_or}
 use Rattle.parts.specs.Choose.{pick}
 use Rattle.parts.specs.declared.list.Message.{Message}
 use Rattle.parts.specs.declared.list.Messages.{Messages}
-use Rattle.parts.specs.declared.list.Flight.{Flight}
-use Rattle.parts.specs.declared.list.Best.{Best}
 use Rattle.parts.specs.declared.list.Top.{Top}
 use Rattle.parts.specs.declared.list.Parts.{Parts}
 use Rattle.parts.specs.declared.list.Which.{Which}
@@ -47,8 +46,9 @@ pushed l m = pick (nat_lt l.len 16) (record { items = slice_set l.items l.len m;
 -- ---- which messages
 
 -- the message in flight is the one at the flight's place
-abbrev pub flies : Flight → Message → Bool
-flies f m = f.on && f.place == m.place
+abbrev pub flies : Option ℕ → Message → Bool
+flies None m = false
+flies (Some p) m = p == m.place
 
 -- a message waits unless it is in flight
 unfoldable pub fits : Which → Message → Bool
@@ -80,33 +80,25 @@ chosen_by w fitting l = pack (only (among w fitting) (all l))
 
 -- ---- the best of those that fit: the highest priority, the earliest among equals
 
-abbrev pub no_best : Best
-no_best = record { some = false; message = blank }
-
-abbrev pub the_best : Message → Best
-the_best m = record { some = true; message = m }
-
 -- a message takes the best's place if there is none yet, or if its priority is higher
-unfoldable pub better_of : Which → Best → Message → Best
+unfoldable pub better_of : Which → Option Message → Message → Option Message
 better_of w b m =
     pick (fits w m)
-    (pick b.some
-    (pick (nat_lt b.message.priority m.priority) (the_best m) b)
-    (the_best m))
+    (pick (option_map_or (λ (c : Message). nat_lt c.priority m.priority) b true) (Some m) b)
     b
 
-unfoldable pub best_of : Which → List Message → Best → Best
+unfoldable pub best_of : Which → List Message → Option Message → Option Message
 best_of w [] b = b
 best_of w (m ∷ ms) b = best_of w ms (better_of w b m)
 
-unfoldable pub best : Which → Messages → Best
-best w l = best_of w (all l) no_best
+unfoldable pub best : Which → Messages → Option Message
+best w l = best_of w (all l) None
 
 -- ---- the same by position
 
 -- the message at a position of the array, or none from 16 on
-abbrev pub standing : Messages → ℕ → Best
-standing l at = pick (nat_lt at 16) (the_best (slice_index_or l.items at blank)) no_best
+abbrev pub standing : Messages → ℕ → Option Message
+standing l at = pick (nat_lt at 16) (Some (slice_index_or l.items at blank)) None
 
 abbrev pub no_top : Top
 no_top = record { at = 16; priority = 0 }

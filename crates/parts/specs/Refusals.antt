@@ -1,8 +1,9 @@
 -- Checks in their order: the number of the first that holds, or 0.
-use Rattle.std.specs.Prelude.{ℕ, Bool, not, [], ◌∷◌, ◌==◌, nat_le, nat_lt}
+use Rattle.std.specs.Prelude.{ℕ, Bool, false, not, [], ◌∷◌, ◌==◌, nat_le, nat_lt, is_none, Option}
+use Rattle.std.specs.Option.{option_map_or}
 use Rattle.codec.specs.Order.{first_of}
 use Rattle.codec.specs.Sizes.{most_information}
-use Rattle.parts.specs.declared.list.Best.{Best}
+use Rattle.parts.specs.declared.list.Message.{Message}
 use Rattle.parts.specs.declared.request.Request.{Request}
 
 -- sender or addressee not a member, both the same, sender not live or this station
@@ -33,10 +34,10 @@ queue_refusal n own live len q =
     ∷ [])
 
 -- channel above 7; no message on the channel; take's room shorter than the message
-unfoldable pub take_refusal : ℕ → Best → ℕ → ℕ
+unfoldable pub take_refusal : ℕ → Option Message → ℕ → ℕ
 take_refusal channel b room =
     first_of 0
     ((nat_lt 7 channel, 17)
-    ∷ (not b.some, 20)
-    ∷ (nat_lt room b.message.length, 21)
+    ∷ (is_none b, 20)
+    ∷ (option_map_or (λ (m : Message). nat_lt room m.length) b false, 21)
     ∷ [])

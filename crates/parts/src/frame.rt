@@ -16,16 +16,7 @@ ghost use Rattle.parts.specs.Frames.{
   fit,
 };
 
-use crate::list::Flight;
 use codec::sizes::INFORMATION;
-
-// A station, or none.
-#[derive(Drop)]
-#[derive(Clone, Copy)]
-pub enum Whom {
-    Nobody,
-    Member(u8),
-}
 
 #[derive(Drop)]
 #[derive(Clone, Copy)]
@@ -33,7 +24,7 @@ pub struct TokenFrame {
     pub number: u16,
     pub priority: u8,
     pub master: u8,
-    pub failing: Whom,
+    pub failing: Option<u8>,
     pub named: u8,
 }
 
@@ -66,12 +57,7 @@ pub enum Frame {
 }
 
 // A frame with its addressee, or none.
-#[derive(Drop)]
-#[derive(Clone, Copy)]
-pub enum Dispatch {
-    Nothing,
-    Sent { frame: Frame, to: u8 },
-}
+pub type Dispatch = Option<(Frame, u8)>;
 
 pub fn number_of(f: Frame) -> u16
     ensures { result ≡ number_of f }
@@ -90,44 +76,32 @@ pub fn next(k: u16) -> u16
     std::num::wrapping_add_u16(k, 1)
 }
 
-fn flight_in(f: Frame) -> Flight
+fn flight_in(f: Frame) -> Option<u8>
     ensures { result ≡ flight_in f }
 {
     match f {
-        Frame::Token(_) => Flight {
-            on: false,
-            place: 0,
-        },
-        Frame::Transmit(_) => Flight {
-            on: false,
-            place: 0,
-        },
-        Frame::Information(i) => Flight {
-            on: true,
-            place: i.place,
-        },
+        Frame::Token(_) => None,
+        Frame::Transmit(_) => None,
+        Frame::Information(i) => Some(i.place),
     }
 }
 
-// Which message an awaited frame has in flight.
-pub fn flight(d: Dispatch) -> Flight
+// The place of the message that an awaited frame has in flight, if one is.
+pub fn flight(d: Dispatch) -> Option<u8>
     ensures { result ≡ flight d }
 {
     match d {
-        Dispatch::Nothing => Flight {
-            on: false,
-            place: 0,
-        },
-        Dispatch::Sent { frame, to: _ } => flight_in(frame),
+        None => None,
+        Some((frame, _)) => flight_in(frame),
     }
 }
 
-fn member_or_nobody(n: u8, w: Whom) -> bool
+fn member_or_nobody(n: u8, w: Option<u8>) -> bool
     ensures { result ≡ member_or_nobody n w }
 {
     match w {
-        Whom::Nobody => true,
-        Whom::Member(p) => p < n,
+        None => true,
+        Some(p) => p < n,
     }
 }
 
@@ -180,13 +154,13 @@ pub fn fit(n: u8, f: Frame) -> bool
 }
 
 // Whom a frame names as failing: only a token does.
-pub fn failing_of(f: Frame) -> Whom
+pub fn failing_of(f: Frame) -> Option<u8>
     ensures { result ≡ failing_of f }
 {
     match f {
         Frame::Token(t) => t.failing,
-        Frame::Transmit(_) => Whom::Nobody,
-        Frame::Information(_) => Whom::Nobody,
+        Frame::Transmit(_) => None,
+        Frame::Information(_) => None,
     }
 }
 
@@ -213,8 +187,8 @@ pub fn acknowledges(awaited: Dispatch, from: u8, k: u16) -> bool
     ensures { result ≡ acknowledges awaited from k }
 {
     match awaited {
-        Dispatch::Nothing => false,
-        Dispatch::Sent { frame, to: _ } => {
+        None => false,
+        Some((frame, _)) => {
             let own = number_of(frame);
             is_ahead(own, k)
         }

@@ -46,31 +46,15 @@ pub const BLANK: Message = Message {
     place: 0,
 };
 
-// The place of the message in flight, if one is.
-#[derive(Drop)]
-#[derive(Clone, Copy)]
-pub struct Flight {
-    pub on: bool,
-    pub place: u8,
-}
-
-// A choice among messages.
+// A choice among messages; those that wait are all but the one in flight, whose place is given if there is one.
 #[derive(Drop)]
 #[derive(Clone, Copy)]
 pub enum Which {
-    AnyWaiting(Flight),
-    WaitingFor(Flight, u8),
-    WaitingForOthers(Flight, u8),
+    AnyWaiting(Option<u8>),
+    WaitingFor(Option<u8>, u8),
+    WaitingForOthers(Option<u8>, u8),
     HasPlace(u8),
     OnChannel(usize),
-}
-
-// The best message of those looked at, if there is one.
-#[derive(Drop)]
-#[derive(Clone, Copy)]
-pub struct Best {
-    pub some: bool,
-    pub message: Message,
 }
 
 // Where the highest message of those looked at stands, and its priority; at 16 where there is none.
@@ -126,10 +110,13 @@ pub fn push(l: Messages, m: Message) -> Messages
     l
 }
 
-pub fn flies(f: Flight, m: Message) -> bool
+pub fn flies(f: Option<u8>, m: Message) -> bool
     ensures { result ≡ flies f m }
 {
-    if f.on { f.place == m.place } else { false }
+    match f {
+        None => false,
+        Some(p) => p == m.place,
+    }
 }
 
 pub fn suits(w: Which, m: Message) -> bool
@@ -185,24 +172,17 @@ pub fn chosen_at(l: Messages, w: Which) -> usize
 }
 
 // The message at a position, or none from 16 on.
-pub fn standing(l: Messages, at: usize) -> Best
+pub fn standing(l: Messages, at: usize) -> Option<Message>
     ensures { result ≡ standing l at }
 {
     if at < 16 {
-        let m = l.items[at];
-        return Best {
-            some: true,
-            message: m,
-        };
+        return Some(l.items[at]);
     }
-    Best {
-        some: false,
-        message: BLANK,
-    }
+    None
 }
 
 // The message of the highest priority among those that suit, the earliest of equals.
-pub fn choose(l: Messages, w: Which) -> Best
+pub fn choose(l: Messages, w: Which) -> Option<Message>
     ensures { result ≡ best w l }
 {
     let at = chosen_at(l, w);

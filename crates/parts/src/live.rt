@@ -2,8 +2,6 @@
 ghost use Rattle.std.specs.Prelude.{◌≡◌};
 ghost use Rattle.parts.specs.Live.{live_at, without, newly, seats, full, after, successor};
 
-use crate::frame::Whom;
-
 #[derive(Drop)]
 #[derive(Clone, Copy)]
 pub struct Live {
@@ -79,11 +77,11 @@ pub fn successor(live: Live, n: u8, from: u8) -> u8
 }
 
 // A station is newly struck if it was live.
-pub fn newly(live: Live, p: u8) -> Whom
+pub fn newly(live: Live, p: u8) -> Option<u8>
     ensures { result ≡ newly live p }
 {
     if live_at(live, p as usize) {
-        return Whom::Member(p);
+        return Some(p);
     }
-    Whom::Nobody
+    None
 }

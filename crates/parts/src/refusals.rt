@@ -2,7 +2,7 @@
 ghost use Rattle.std.specs.Prelude.{◌≡◌};
 ghost use Rattle.parts.specs.Refusals.{heard_refusal, queue_refusal, take_refusal};
 
-use crate::list::Best;
+use crate::list::Message;
 use crate::request::Request;
 use codec::sizes::INFORMATION;
 
@@ -63,16 +63,16 @@ pub fn queue_refusal(n: u8, own: u8, live: bool, len: usize, q: Request) -> u32
 }
 
 // What take asks, in order.
-pub fn take_refusal(channel: usize, b: Best, room: usize) -> u32
+pub fn take_refusal(channel: usize, b: Option<Message>, room: usize) -> u32
     ensures { result ≡ take_refusal channel b room }
 {
     if 7 < channel {
         return 17;
     }
-    if !b.some {
+    let Some(m) = b else {
         return 20;
-    }
-    if room < b.message.length as usize {
+    };
+    if room < m.length as usize {
         return 21;
     }
     0

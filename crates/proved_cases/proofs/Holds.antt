@@ -24,7 +24,7 @@ use Rattle.bench.specs.Delivery.{handed, delivered, reply_of, deliver_to, step_o
 use Rattle.bench.specs.Rows.{row_of, row_on}
 use Rattle.bench.specs.Runs.{after_event, composed, final, frames, stepping}
 use Rattle.bench.specs.Text.{width, decimal, cell, front_text, ends_text, back_text, row_text, rows_text, answer_text}
-use Rattle.script.specs.Lines.{words, value_from, is_number, same, shaped, line_of_words, line_of, lines_of}
+use Rattle.script.specs.Lines.{words, value_from, is_number, shaped, line_of_words, line_of, lines_of}
 use Rattle.script.specs.Script.{opens, does, prints, printed, output}
 use Rattle.waiting.specs.Waiting.{own, before, shorts, octets_on_wire}
 use Rattle.proved_cases.specs.Cases.{Case, members, ring, longest_read, other_cases, cases}
@@ -60,7 +60,7 @@ longest_2 = ap told (reads (ring_file (ring 2 64 15)) 7 refl refl refl)
 -- ---- the table
 
 others_hold : map (λ (c : Case). c.given) other_cases ≡ map (λ (c : Case). c.page) other_cases
-unfolding other_cases members bits addresses_of bad_address position ring_refusal ring_in read_ring channels_of members_octets ring_file pick all_of every full after seek successor pack pushed fits only split_by better_of best_of best has_place free_from lowest_free add_up_to head moved unless started start_rule start_round send_head grant returned cleared raised pass_on on_token reply heard_refusal is_ahead acknowledges acknowledged landed acknowledge strike_other strike_heard failed is_last nothing_more receive stored handle respond heard frame_rule newly give_up_to give_up_at give_up_flight queue_refusal accepted queue_rule nobody on_wire start_at start_down ring_with queue handed delivered reply_of deliver_to step_on step steps row_of row_on after_event composed final frames stepping width decimal cell front_text ends_text back_text row_text rows_text answer_text words value_from is_number same shaped line_of_words line_of lines_of opens does prints printed output own before shorts octets_on_wire
+unfolding other_cases members bits addresses_of bad_address position ring_refusal ring_in read_ring channels_of members_octets ring_file pick all_of every full after seek successor pack pushed fits only split_by better_of best_of best has_place free_from lowest_free add_up_to head moved unless started start_rule start_round send_head grant returned cleared raised pass_on on_token reply heard_refusal is_ahead acknowledges acknowledged landed acknowledge strike_other strike_heard failed is_last nothing_more receive stored handle respond heard frame_rule newly give_up_to give_up_at give_up_flight queue_refusal accepted queue_rule nobody on_wire start_at start_down ring_with queue handed delivered reply_of deliver_to step_on step steps row_of row_on after_event composed final frames stepping width decimal cell front_text ends_text back_text row_text rows_text answer_text words value_from is_number shaped line_of_words line_of lines_of opens does prints printed output own before shorts octets_on_wire
 others_hold = refl
 
 one_more : (c : Case) (cs : List Case) → c.given ≡ c.page → map (λ (c : Case). c.given) cs ≡ map (λ (c : Case). c.page) cs

@@ -1,11 +1,9 @@
 -- The page's cases: for each, what the definitions give and what the page says.
-use Rattle.std.specs.Prelude.{ℕ, zero, suc, ◌+◌, ◌-◌, ◌*◌, cond, List, [], ◌∷◌, ◌++◌, length, take, replicate}
+use Rattle.std.specs.Prelude.{ℕ, zero, suc, ◌+◌, ◌-◌, ◌*◌, cond, List, [], ◌∷◌, ◌++◌, length, take, replicate, None, Some}
 use Prim.Native.String.{String}
 use Rattle.codec.specs.Ring.{Ring, ring_file, read_ring}
 use Rattle.packet_codec.specs.Packet.{information, wire_octets}
-use Rattle.parts.specs.declared.frame.Whom.TheVariants.{Nobody}
 use Rattle.parts.specs.declared.frame.Frame.TheVariants.{Token}
-use Rattle.parts.specs.declared.frame.Dispatch.TheVariants.{Sent}
 use Rattle.parts.specs.Frames.{acknowledges}
 use Rattle.sent.specs.Round.{opening}
 use Rattle.bench.specs.Calls.{queue}
@@ -50,7 +48,7 @@ wire n = wire_octets (information 1 0 0 n)
 
 -- 1 where a token of number k to station 1 is acknowledged by a frame of number j from a station, else 0
 acknowledged_by : ℕ → ℕ → ℕ → ℕ
-acknowledged_by k j from = cond (acknowledges (Sent (Token (opening 0 0 k Nobody)) 1) from j) 1 0
+acknowledged_by k j from = cond (acknowledges (Some (Token (opening 0 0 k None), 1)) from j) 1 0
 
 -- the octets of lines of text
 lines : List String → List ℕ

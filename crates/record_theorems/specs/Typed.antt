@@ -1,19 +1,14 @@
 -- A station whose arrays are as long and whose numbers are as small as their types say, as every station that the code holds.
-use Rattle.std.specs.Prelude.{◌≡◌, ℕ, ◌<◌, length, get_or}
+use Rattle.std.specs.Prelude.{◌≡◌, ℕ, ◌<◌, length, get_or, Option, None, Some}
 use Rattle.parts.specs.Messages.{blank}
 use Rattle.parts.specs.declared.list.Message.{Message}
 use Rattle.parts.specs.declared.list.Messages.{Messages}
-use Rattle.parts.specs.declared.frame.Whom.{Whom}
-use Rattle.parts.specs.declared.frame.Whom.TheVariants.{Nobody, Member}
 use Rattle.parts.specs.declared.frame.TokenFrame.{TokenFrame}
 use Rattle.parts.specs.declared.frame.TransmitFrame.{TransmitFrame}
 use Rattle.parts.specs.declared.frame.InformationFrame.{InformationFrame}
 use Rattle.parts.specs.declared.frame.Frame.{Frame}
 use Rattle.parts.specs.declared.frame.Frame.TheVariants.{Token, Transmit, Information}
-use Rattle.parts.specs.declared.frame.Dispatch.{Dispatch}
-use Rattle.parts.specs.declared.frame.Dispatch.TheVariants.{Nothing, Sent}
-use Rattle.station.specs.declared.station.Handled.{Handled}
-use Rattle.station.specs.declared.station.Handled.TheVariants.{Never, Last}
+use Rattle.parts.specs.Frames.{Dispatch}
 use Rattle.station.specs.declared.station.Turn.{Turn}
 use Rattle.station.specs.declared.station.Station.{Station}
 
@@ -31,9 +26,9 @@ pub record TypedList (l : Messages) : Type 0 where
   pub slots : length l.items ≡ 16
   pub each : (i : ℕ) → TypedMessage (get_or l.items i blank)
 
-abbrev pub TypedWhom : Whom → Type 0
-TypedWhom Nobody = Unit {0}
-TypedWhom (Member p) = p < 256
+abbrev pub TypedWhom : Option ℕ → Type 0
+TypedWhom None = Unit {0}
+TypedWhom (Some p) = p < 256
 
 pub record TypedToken (t : TokenFrame) : Type 0 where
   pub number_u16 : t.number < 65536
@@ -61,12 +56,12 @@ TypedFrame (Transmit t) = TypedTransmit t
 TypedFrame (Information i) = TypedInformation i
 
 abbrev pub TypedDispatch : Dispatch → Type 0
-TypedDispatch Nothing = Unit {0}
-TypedDispatch (Sent frame to) = TypedFrame frame × (to < 256)
+TypedDispatch None = Unit {0}
+TypedDispatch (Some (frame, to)) = TypedFrame frame × (to < 256)
 
-abbrev pub TypedHandled : Handled → Type 0
-TypedHandled Never = Unit {0}
-TypedHandled (Last k) = k < 65536
+abbrev pub TypedHandled : Option ℕ → Type 0
+TypedHandled None = Unit {0}
+TypedHandled (Some k) = k < 65536
 
 pub record TypedTurn (t : Turn) : Type 0 where
   pub awaited : TypedDispatch t.awaited

@@ -1,6 +1,6 @@
 -- The record's fields: what a number in it stands for, and the number that stands for it. A field is good where writing what it is
 -- read as gives it back.
-use Rattle.std.specs.Prelude.{ℕ, zero, suc, ◌+◌, ◌-◌, ◌*◌, min, max, Bool, true, false, not, List, [], ◌∷◌, ◌++◌, ltb, eqb, replicate, drop}
+use Rattle.std.specs.Prelude.{ℕ, zero, suc, ◌+◌, ◌-◌, ◌*◌, min, max, Bool, true, false, not, List, [], ◌∷◌, ◌++◌, ltb, eqb, replicate, drop, Option, None, Some}
 use Rattle.codec.specs.Octets.{octets, number_at, first_nonzero}
 use Rattle.parts.specs.Choose.{pick, all_of}
 use Rattle.parts.specs.Moves.{state_number}
@@ -13,17 +13,12 @@ use Rattle.parts.specs.declared.moves.State.TheVariants.{Offline, Idle, Waiting,
 use Rattle.parts.specs.declared.live.Live.{Live}
 use Rattle.parts.specs.declared.list.Message.{Message}
 use Rattle.parts.specs.declared.list.Messages.{Messages}
-use Rattle.parts.specs.declared.frame.Whom.{Whom}
-use Rattle.parts.specs.declared.frame.Whom.TheVariants.{Nobody, Member}
 use Rattle.parts.specs.declared.frame.TokenFrame.{TokenFrame}
 use Rattle.parts.specs.declared.frame.TransmitFrame.{TransmitFrame}
 use Rattle.parts.specs.declared.frame.InformationFrame.{InformationFrame}
 use Rattle.parts.specs.declared.frame.Frame.{Frame}
 use Rattle.parts.specs.declared.frame.Frame.TheVariants.{Token, Transmit, Information}
-use Rattle.parts.specs.declared.frame.Dispatch.{Dispatch}
-use Rattle.parts.specs.declared.frame.Dispatch.TheVariants.{Nothing, Sent}
-use Rattle.station.specs.declared.station.Handled.{Handled}
-use Rattle.station.specs.declared.station.Handled.TheVariants.{Never, Last}
+use Rattle.parts.specs.Frames.{Dispatch}
 use Rattle.station.specs.declared.station.Turn.{Turn}
 
 -- ---- the state: Offline 0, Idle 1, Waiting 2, Alone 3, Excluded 4
@@ -41,21 +36,21 @@ state_good k = eqb (state_number (state_from k)) k
 
 -- ---- the last handled number: 1 and the number, or 0 and 0
 
-abbrev pub handled_flag : Handled → ℕ
-handled_flag Never = 0
-handled_flag (Last k) = 1
+abbrev pub handled_flag : Option ℕ → ℕ
+handled_flag None = 0
+handled_flag (Some k) = 1
 
-abbrev pub handled_number : Handled → ℕ
-handled_number Never = 0
-handled_number (Last k) = k
+abbrev pub handled_number : Option ℕ → ℕ
+handled_number None = 0
+handled_number (Some k) = k
 
-unfoldable pub handled_from : ℕ → ℕ → Handled
-handled_from flag k = pick (eqb flag 0) Never (Last k)
+unfoldable pub handled_from : ℕ → ℕ → Option ℕ
+handled_from flag k = pick (eqb flag 0) None (Some k)
 
 abbrev pub handled_good : ℕ → ℕ → Bool
 handled_good flag k = pick (eqb (handled_flag (handled_from flag k)) flag) (eqb (handled_number (handled_from flag k)) k) false
 
-abbrev pub handled_octets : Handled → List ℕ
+abbrev pub handled_octets : Option ℕ → List ℕ
 handled_octets h = octets 1 (handled_flag h) ++ octets 2 (handled_number h)
 
 -- ---- an awaited frame as ten numbers: kind (0 none, 1 token, 2 transmit token, 3 information), addressee, number, priority,
@@ -65,12 +60,12 @@ abbrev pub no_slip : Slip
 no_slip =
     record { kind = 0; to = 0; number = 0; priority = 0; master = 0; failing = 0; named = 0; channel = 0; place = 0; length = 0 }
 
-abbrev pub whom_number : Whom → ℕ
-whom_number Nobody = 0
-whom_number (Member p) = p + 1
+abbrev pub whom_number : Option ℕ → ℕ
+whom_number None = 0
+whom_number (Some p) = p + 1
 
-unfoldable pub whom_from : ℕ → Whom
-whom_from k = pick (eqb k 0) Nobody (pick (ltb 256 k) Nobody (Member (k - 1)))
+unfoldable pub whom_from : ℕ → Option ℕ
+whom_from k = pick (eqb k 0) None (pick (ltb 256 k) None (Some (k - 1)))
 
 unfoldable pub slip_to : ℕ → Frame → Slip
 slip_to to (Token t) =
@@ -84,8 +79,8 @@ slip_to to (Information i) =
     { kind = 3; to = to; number = i.number; priority = i.priority; master = 0; failing = 0; named = 0; channel = i.channel; place = i.place; length = i.length }
 
 unfoldable pub slip_of : Dispatch → Slip
-slip_of Nothing = no_slip
-slip_of (Sent frame to) = slip_to to frame
+slip_of None = no_slip
+slip_of (Some (frame, to)) = slip_to to frame
 
 abbrev pub token_from : Slip → TokenFrame
 token_from p = record { number = p.number; priority = p.priority; master = p.master; failing = whom_from p.failing; named = p.named }
@@ -98,10 +93,10 @@ information_from p = record { number = p.number; priority = p.priority; channel 
 
 unfoldable pub dispatch_from : Slip → Dispatch
 dispatch_from p =
-    pick (eqb p.kind 0) Nothing
-    (pick (eqb p.kind 1) (Sent (Token (token_from p)) p.to)
-    (pick (eqb p.kind 2) (Sent (Transmit (transmit_from p)) p.to)
-    (Sent (Information (information_from p)) p.to)))
+    pick (eqb p.kind 0) None
+    (pick (eqb p.kind 1) (Some (Token (token_from p), p.to))
+    (pick (eqb p.kind 2) (Some (Transmit (transmit_from p), p.to))
+    (Some (Information (information_from p), p.to))))
 
 unfoldable pub same_slip : Slip → Slip → Bool
 same_slip p q =

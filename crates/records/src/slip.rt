@@ -23,7 +23,7 @@ use crate::layout::{
     CHANNEL_IN, FAILING_IN, LENGTH_IN, MASTER_IN, NAMED_IN, NUMBER_IN, PLACE_IN, PRIORITY_IN, TO_IN,
 };
 use codec::octets::get;
-use parts::frame::{Dispatch, Frame, InformationFrame, TokenFrame, TransmitFrame, Whom};
+use parts::frame::{Dispatch, Frame, InformationFrame, TokenFrame, TransmitFrame};
 
 // Kind 0 is none, 1 a token, 2 a transmit token, 3 information. A failing station is its position and one, or 0 for none.
 #[derive(Drop)]
@@ -58,25 +58,25 @@ pub fn no_slip() -> Slip
     }
 }
 
-pub fn whom_number(w: Whom) -> u16
+pub fn whom_number(w: Option<u8>) -> u16
     ensures { result ≡ whom_number w }
 {
     match w {
-        Whom::Nobody => 0,
-        Whom::Member(p) => p as u16 + 1,
+        None => 0,
+        Some(p) => p as u16 + 1,
     }
 }
 
-pub fn whom_from(k: u16) -> Whom
+pub fn whom_from(k: u16) -> Option<u8>
     ensures { result ≡ whom_from k }
 {
     if k == 0 {
-        return Whom::Nobody;
+        return None;
     }
     if 256 < k {
-        return Whom::Nobody;
+        return None;
     }
-    Whom::Member((k - 1) as u8)
+    Some((k - 1) as u8)
 }
 
 pub fn slip_to(to: u8, f: Frame) -> Slip
@@ -129,8 +129,8 @@ pub fn slip_of(d: Dispatch) -> Slip
     ensures { result ≡ slip_of d }
 {
     match d {
-        Dispatch::Nothing => no_slip(),
-        Dispatch::Sent { frame, to } => slip_to(to, frame),
+        None => no_slip(),
+        Some((frame, to)) => slip_to(to, frame),
     }
 }
 
@@ -138,7 +138,7 @@ pub fn dispatch_from(p: Slip) -> Dispatch
     ensures { result ≡ dispatch_from p }
 {
     if p.kind == 0 {
-        return Dispatch::Nothing;
+        return None;
     }
     if p.kind == 1 {
         let failing = whom_from(p.failing);
@@ -149,7 +149,7 @@ pub fn dispatch_from(p: Slip) -> Dispatch
             failing,
             named: p.named,
         });
-        return Dispatch::Sent { frame, to: p.to };
+        return Some((frame, p.to));
     }
     if p.kind == 2 {
         let frame = Frame::Transmit(TransmitFrame {
@@ -158,7 +158,7 @@ pub fn dispatch_from(p: Slip) -> Dispatch
             master: p.master,
             named: p.named,
         });
-        return Dispatch::Sent { frame, to: p.to };
+        return Some((frame, p.to));
     }
     let frame = Frame::Information(InformationFrame {
         number: p.number,
@@ -167,7 +167,7 @@ pub fn dispatch_from(p: Slip) -> Dispatch
         length: p.length,
         place: p.place,
     });
-    Dispatch::Sent { frame, to: p.to }
+    Some((frame, p.to))
 }
 
 pub fn same_slip(p: Slip, q: Slip) -> bool

@@ -20,7 +20,7 @@ use crate::layout::{AWAITED, HANDLED, HANDLED_NUMBER, OWN, RETRIES, STATE};
 use crate::slip::{dispatch_from, put_slip, slip_at, slip_good, slip_of};
 use codec::octets::get;
 use parts::moves::{State, state_number};
-use station::station::{Handled, Turn};
+use station::station::Turn;
 
 pub fn state_from(k: usize) -> State
     ensures { result ≡ state_from k }
@@ -46,31 +46,31 @@ pub fn state_good(k: usize) -> bool
     state_number(state_from(k)) == k
 }
 
-pub fn handled_flag(h: Handled) -> u64
+pub fn handled_flag(h: Option<u16>) -> u64
     ensures { result ≡ handled_flag h }
 {
     match h {
-        Handled::Never => 0,
-        Handled::Last(_) => 1,
+        None => 0,
+        Some(_) => 1,
     }
 }
 
-pub fn handled_number(h: Handled) -> u64
+pub fn handled_number(h: Option<u16>) -> u64
     ensures { result ≡ handled_number h }
 {
     match h {
-        Handled::Never => 0,
-        Handled::Last(k) => k as u64,
+        None => 0,
+        Some(k) => k as u64,
     }
 }
 
-pub fn handled_from(flag: u64, k: u16) -> Handled
+pub fn handled_from(flag: u64, k: u16) -> Option<u16>
     ensures { result ≡ handled_from flag k }
 {
     if flag == 0 {
-        return Handled::Never;
+        return None;
     }
-    Handled::Last(k)
+    Some(k)
 }
 
 pub fn handled_good(flag: u64, k: u16) -> bool
@@ -111,7 +111,7 @@ pub fn turn_good(s: &[u8]) -> bool
     slip_good(slip_at(s, AWAITED))
 }
 
-pub fn put_handled(out: &mut [u8], h: Handled)
+pub fn put_handled(out: &mut [u8], h: Option<u16>)
     requires { record_length ≤ length out.old }
     ensures { out.new ≡ laid out.old handled_at (handled_octets h) }
 {

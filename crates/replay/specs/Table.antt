@@ -1,7 +1,7 @@
 -- What the functions over the lent table give.
-use Rattle.std.specs.Prelude.{Bool, false, List, [], ◌∷◌, ◌++◌, ℕ, ◌+◌, ◌^◌, ◌<◌, ◌≤◌, ltb, eqb, length, get_or, take, drop, set}
+use Rattle.std.specs.Prelude.{Bool, false, List, [], ◌∷◌, ◌++◌, ℕ, ◌+◌, ◌^◌, ◌<◌, ◌≤◌, ltb, eqb, length, get_or, take, drop, set, Option}
 use Rattle.parts.specs.Choose.{pick}
-use Rattle.parts.specs.declared.frame.Dispatch.{Dispatch}
+use Rattle.parts.specs.Frames.{Dispatch}
 use Rattle.station.specs.declared.station.Station.{Station}
 use Rattle.bench.specs.Ring.{nobody}
 use Rattle.bench.specs.Text.{answer_text}
@@ -156,7 +156,7 @@ abbrev pub handed_in : Handing → List Station → List Station
 handed_in h ss = delivered h.n (hears h) h.frame h.from h.to 0 ss
 
 -- and once the station at a place has been called
-abbrev pub called_in : ℕ → Call → List Station → List Station
+abbrev pub called_in : ℕ → Option Call → List Station → List Station
 called_in p c ss = set ss p (kept_by (get_or ss p nobody) c).station
 
 abbrev pub table_in : Plan → List Station → List Station

@@ -72,7 +72,7 @@ pub fn place_in(g: Going) -> usize
     p.place
 }
 
-pub fn call_in(g: Going) -> Call
+pub fn call_in(g: Going) -> Option<Call>
     ensures { result ≡ (plan_in (way_of g) g.read).call }
 {
     let p = plan_of(g);

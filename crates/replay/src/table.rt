@@ -49,7 +49,7 @@ pub fn strikers(table: &[Station], h: Handing, m: usize, none: Live) -> Live
 }
 
 // What a call of the station at `p` tells.
-pub fn told_at(table: &[Station], p: usize, c: Call) -> Told
+pub fn told_at(table: &[Station], p: usize, c: Option<Call>) -> Told
     requires { p < length table.now }
     ensures { result ≡ told_by (get_or table.now p nobody) c }
 {
@@ -58,7 +58,7 @@ pub fn told_at(table: &[Station], p: usize, c: Call) -> Told
 }
 
 // The station at `p` is called.
-pub fn call_at(table: &mut [Station], p: usize, c: Call) -> u32
+pub fn call_at(table: &mut [Station], p: usize, c: Option<Call>) -> u32
     requires { p < length table.old }
     ensures { (result ≡ (kept_by (get_or table.old p nobody) c).number)
         × (table.new ≡ set table.old p (kept_by (get_or table.old p nobody) c).station) }
@@ -70,7 +70,7 @@ pub fn call_at(table: &mut [Station], p: usize, c: Call) -> u32
 }
 
 // The frame is handed round, and the station is called. The addressee's new frame.
-pub fn act(table: &mut [Station], h: Handing, p: usize, c: Call) -> Dispatch
+pub fn act(table: &mut [Station], h: Handing, p: usize, c: Option<Call>) -> Dispatch
     requires { (length table.old ≡ 64) × ((h.m ≡ seats h.n) × ((h.quiet ≡ is_quiet h.frame) × (p < 64))) }
     ensures { (result ≡ (taken_in h table.old).reply) × (table.new ≡ called_in p c (handed_in h table.old)) }
 {

@@ -1,10 +1,8 @@
 -- What a run prints, line by line.
-use Rattle.std.specs.Prelude.{Bool, List, [], ◌∷◌, ◌++◌, ℕ, suc, eqb}
+use Rattle.std.specs.Prelude.{Bool, List, [], ◌∷◌, ◌++◌, ℕ, suc, eqb, Option, None, Some}
 use Rattle.parts.specs.Choose.{pick}
 use Rattle.station.specs.Queue.{queue_rule}
 use Rattle.parts.specs.declared.frame.Frame.{Frame}
-use Rattle.parts.specs.declared.frame.Whom.{Whom}
-use Rattle.parts.specs.declared.frame.Whom.TheVariants.{Nobody, Member}
 use Rattle.station.specs.declared.station.Station.{Station}
 use Rattle.station.specs.declared.station.Answer.{Answer}
 use Rattle.bench.specs.Delivery.{handed}
@@ -28,7 +26,7 @@ pub data Line : Type 0 where
   stopped : ℕ → ℕ → Line
 
 unfoldable pub line_text : Line → List ℕ
-line_text (struck p q) = struck_text (Member p) q
+line_text (struck p q) = struck_text (Some p) q
 line_text (sent row) = row_text row
 line_text (queued number) = answer_text number
 line_text (stopped number index) = stopped_text number index
@@ -39,9 +37,9 @@ lines_text (l ∷ ls) = line_text l ++ lines_text ls
 
 -- ---- one record
 
-unfoldable pub struck_line : Whom → ℕ → List Line
-struck_line Nobody q = []
-struck_line (Member p) q = struck p q ∷ []
+unfoldable pub struck_line : Option ℕ → ℕ → List Line
+struck_line None q = []
+struck_line (Some p) q = struck p q ∷ []
 
 unfoldable pub sent_lines : List Row → List Line
 sent_lines [] = []

@@ -1,6 +1,5 @@
 -- "A frame record takes the oldest frame on the wire; with none it does nothing": and only the addressee answers it.
-use Rattle.std.specs.Prelude.{◌≡◌, Bool, true, false, List, [], ◌∷◌, ◌++◌, ℕ, ◌<◌, ◌≤◌, length}
-use Rattle.parts.specs.declared.frame.Dispatch.TheVariants.{Nothing}
+use Rattle.std.specs.Prelude.{◌≡◌, Bool, true, false, List, [], ◌∷◌, ◌++◌, ℕ, ◌<◌, ◌≤◌, length, None}
 use Rattle.capture.specs.declared.record.Event.{Event}
 use Rattle.capture.specs.declared.record.Event.TheVariants.{Delivered, LostForAddressee, LostForAll, Timer, Queue}
 use Rattle.day.specs.declared.wire.Flying.{Flying}
@@ -19,7 +18,7 @@ is_frame (Queue station request) = false
 -- addressee sends, at most one frame, joins the end
 pub record TakesOldest (d : Day) (e : Event) (f : Flying) (rest : List Flying) : Type 0 where
   pub stations_after : (p : ℕ) → p < d.n → member_at (after_record d e) p ≡ (answer_of (hearers e f) d f p).station
-  pub others_silent : (p : ℕ) → (p ≡ f.to → ⊥) → (answer_of (hearers e f) d f p).sent ≡ Nothing
+  pub others_silent : (p : ℕ) → (p ≡ f.to → ⊥) → (answer_of (hearers e f) d f p).sent ≡ None
   pub wire_after : (after_record d e).wire ≡ rest ++ joining f.to (answer_of (hearers e f) d f f.to).sent
   pub at_most_one : length (joining f.to (answer_of (hearers e f) d f f.to).sent) ≤ 1
 

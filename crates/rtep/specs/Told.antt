@@ -1,5 +1,5 @@
 -- What a driver in C is told: for each answer of the codec the page's number and values.
-use Rattle.std.specs.Prelude.{ℕ, ◌≡◌, Bool, cond, not, List, [], ◌∷◌, ltb, eqb, length, take, get_or}
+use Rattle.std.specs.Prelude.{ℕ, ◌≡◌, Bool, cond, not, List, [], ◌∷◌, ltb, eqb, length, take, get_or, Option, None, Some}
 use Rattle.codec.specs.Order.{first_of}
 use Rattle.codec.specs.Octets.{laid}
 use Rattle.codec.specs.Ring.{Ring, read_ring, form_refusal, formed}
@@ -10,8 +10,6 @@ use Rattle.packet_codec.specs.declared.packet.Packet.{Packet}
 use Rattle.packet_codec.specs.declared.packet.Packet.TheVariants.{Token, Transmit, Information}
 use Rattle.packet_codec.specs.declared.reading.Read.{Read}
 use Rattle.packet_codec.specs.declared.reading.Read.TheVariants.{Refused, Good}
-use Rattle.rtep.specs.declared.Made.{Made}
-use Rattle.rtep.specs.declared.Made.TheVariants.{Nothing, Packet as Of}
 
 -- ---- a ring file
 
@@ -52,32 +50,32 @@ pub record ReadTold (ring packet told : List ℕ) (r : ℕ) (told' : List ℕ) :
 
 -- ---- and back: nothing where a number is out of its field's range, or is not 0 where the kind has no such field
 
-abbrev pub short_tests : ℕ → ℕ → List (Bool × Made)
-short_tests channel length = (not (eqb channel 0), Nothing) ∷ (not (eqb length 0), Nothing) ∷ []
+abbrev pub short_tests : ℕ → ℕ → List (Bool × Option Packet)
+short_tests channel length = (not (eqb channel 0), None) ∷ (not (eqb length 0), None) ∷ []
 
-unfoldable pub short_made : ℕ → ℕ → ℕ → ℕ → ℕ → ℕ → ℕ → ℕ → Made
+unfoldable pub short_made : ℕ → ℕ → ℕ → ℕ → ℕ → ℕ → ℕ → ℕ → Option Packet
 short_made identifier priority number master failing named channel length =
     let p : Short = record { priority = priority; number = number; master = master; failing = failing; named = named } in
-    first_of (cond (eqb identifier 1) (Of (Token p)) (Of (Transmit p))) (short_tests channel length)
+    first_of (cond (eqb identifier 1) (Some (Token p)) (Some (Transmit p))) (short_tests channel length)
 
-abbrev pub head_tests : ℕ → ℕ → ℕ → ℕ → ℕ → List (Bool × Made)
+abbrev pub head_tests : ℕ → ℕ → ℕ → ℕ → ℕ → List (Bool × Option Packet)
 head_tests master failing named channel length =
-    (not (eqb master 0), Nothing)
-    ∷ (not (eqb failing 0), Nothing)
-    ∷ (not (eqb named 0), Nothing)
-    ∷ (ltb 65535 channel, Nothing)
-    ∷ (ltb 65535 length, Nothing)
+    (not (eqb master 0), None)
+    ∷ (not (eqb failing 0), None)
+    ∷ (not (eqb named 0), None)
+    ∷ (ltb 65535 channel, None)
+    ∷ (ltb 65535 length, None)
     ∷ []
 
-unfoldable pub head_made : ℕ → ℕ → ℕ → ℕ → ℕ → ℕ → ℕ → Made
+unfoldable pub head_made : ℕ → ℕ → ℕ → ℕ → ℕ → ℕ → ℕ → Option Packet
 head_made priority number master failing named channel length =
-    first_of (Of (Information (record { priority = priority; number = number; channel = channel; length = length }))) (head_tests master failing named channel length)
+    first_of (Some (Information (record { priority = priority; number = number; channel = channel; length = length }))) (head_tests master failing named channel length)
 
-abbrev pub start_tests : ℕ → ℕ → ℕ → List (Bool × Made)
+abbrev pub start_tests : ℕ → ℕ → ℕ → List (Bool × Option Packet)
 start_tests identifier priority number =
-    (ltb identifier 1, Nothing) ∷ (ltb 3 identifier, Nothing) ∷ (ltb 255 priority, Nothing) ∷ (ltb 65535 number, Nothing) ∷ []
+    (ltb identifier 1, None) ∷ (ltb 3 identifier, None) ∷ (ltb 255 priority, None) ∷ (ltb 65535 number, None) ∷ []
 
-unfoldable pub made_of : List ℕ → Made
+unfoldable pub made_of : List ℕ → Option Packet
 made_of v =
     first_of
     (cond (eqb (get_or v 0 0) 3)
@@ -86,20 +84,20 @@ made_of v =
     (start_tests (get_or v 0 0) (get_or v 1 0) (get_or v 2 0))
 
 -- 9, then 12
-unfoldable pub made_refusal : List ℕ → Made → ℕ → ℕ → ℕ
-made_refusal ring Nothing n room = first_of 12 ((ltb room longest_packet, 9) ∷ [])
-made_refusal ring (Of p) n room = write_refusal ring p n room
+unfoldable pub made_refusal : List ℕ → Option Packet → ℕ → ℕ → ℕ
+made_refusal ring None n room = first_of 12 ((ltb room longest_packet, 9) ∷ [])
+made_refusal ring (Some p) n room = write_refusal ring p n room
 
-abbrev pub made_octets : Made → List ℕ → List ℕ
-made_octets Nothing info = []
-made_octets (Of p) info = packet_octets p info
+abbrev pub made_octets : Option Packet → List ℕ → List ℕ
+made_octets None info = []
+made_octets (Some p) info = packet_octets p info
 
 -- the packet's octets, and those on the wire
-abbrev pub made_sizes : Made → List ℕ
-made_sizes Nothing = []
-made_sizes (Of p) = size p ∷ wire_octets p ∷ []
+abbrev pub made_sizes : Option Packet → List ℕ
+made_sizes None = []
+made_sizes (Some p) = size p ∷ wire_octets p ∷ []
 
-pub record WriteTold (ring : List ℕ) (made : Made) (info out told : List ℕ) (r : ℕ) (out' told' : List ℕ) : Type 0 where
+pub record WriteTold (ring : List ℕ) (made : Option Packet) (info out told : List ℕ) (r : ℕ) (out' told' : List ℕ) : Type 0 where
   pub answer : r ≡ made_refusal ring made (length info) (length out)
   pub out_is : out' ≡ kept r out (laid out 0 (made_octets made info))
   pub told_is : told' ≡ kept r told (made_sizes made)

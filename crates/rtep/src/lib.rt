@@ -1,10 +1,9 @@
 // What a driver in C calls of the codec: numbers, octet slices, and fixed arrays for what is told.
 #![tactic(auto)]
 
-ghost use Rattle.std.specs.Prelude.{◌≡◌, List, [], ◌∷◌, ◌++◌, ◌+◌, ◌≤◌, ◌<◌, length};
+ghost use Rattle.std.specs.Prelude.{◌≡◌, List, [], ◌∷◌, ◌++◌, ◌+◌, ◌≤◌, ◌<◌, length, None, Some};
 ghost use Rattle.codec.specs.Octets.{laid};
 ghost use Rattle.packet_codec.specs.Packet.{short_packet, packet_of};
-ghost use Rattle.rtep.specs.declared.Made.TheVariants.{Nothing, Packet as Of};
 ghost use Rattle.rtep.specs.Told.{RingTold, FormTold, values_of, short_values, head_values, ReadTold, short_made, head_made, made_of, made_refusal, WriteTold};
 
 use codec::forms::to_form;
@@ -16,14 +15,6 @@ use packet_codec::writing::write_packet;
 
 pub mod driver;
 pub mod sizes;
-
-// A packet that eight numbers give, or nothing where they are out of their ranges.
-#[derive(Drop)]
-#[derive(Clone, Copy)]
-pub enum Made {
-    Nothing,
-    Packet(Packet),
-}
 
 // Tells the addresses of a ring's members, from the third number on.
 pub fn tell_addresses(told: &mut [u64], members: &[u64])
@@ -156,14 +147,14 @@ fn short_made(
     named: u64,
     channel: u64,
     length: u64,
-) -> Made
+) -> Option<Packet>
     ensures { result ≡ short_made identifier priority number master failing named channel «length» }
 {
     if channel != 0 {
-        return Made::Nothing;
+        return None;
     }
     if length != 0 {
-        return Made::Nothing;
+        return None;
     }
     let p = Short {
         priority,
@@ -173,9 +164,9 @@ fn short_made(
         named,
     };
     if identifier == 1 {
-        return Made::Packet(Packet::Token(p));
+        return Some(Packet::Token(p));
     }
-    Made::Packet(Packet::Transmit(p))
+    Some(Packet::Transmit(p))
 }
 
 // The information packet of eight numbers, whose addresses are to be 0.
@@ -187,25 +178,25 @@ fn head_made(
     named: u64,
     channel: u64,
     length: u64,
-) -> Made
+) -> Option<Packet>
     ensures { result ≡ head_made priority number master failing named channel «length» }
 {
     if master != 0 {
-        return Made::Nothing;
+        return None;
     }
     if failing != 0 {
-        return Made::Nothing;
+        return None;
     }
     if named != 0 {
-        return Made::Nothing;
+        return None;
     }
     if 65535 < channel {
-        return Made::Nothing;
+        return None;
     }
     if 65535 < length {
-        return Made::Nothing;
+        return None;
     }
-    Made::Packet(Packet::Information(Head {
+    Some(Packet::Information(Head {
         priority,
         number,
         channel: channel as u16,
@@ -214,23 +205,23 @@ fn head_made(
 }
 
 // The packet of eight numbers.
-pub fn made_of(v: &[u64; 8]) -> Made
+pub fn made_of(v: &[u64; 8]) -> Option<Packet>
     ensures { result ≡ made_of v.now }
 {
     let identifier = v[0];
     let priority = v[1];
     let number = v[2];
     if identifier < 1 {
-        return Made::Nothing;
+        return None;
     }
     if 3 < identifier {
-        return Made::Nothing;
+        return None;
     }
     if 255 < priority {
-        return Made::Nothing;
+        return None;
     }
     if 65535 < number {
-        return Made::Nothing;
+        return None;
     }
     if identifier == 3 {
         return head_made(priority as u8, number as u16, v[3], v[4], v[5], v[6], v[7]);
@@ -249,7 +240,7 @@ pub fn made_of(v: &[u64; 8]) -> Made
 
 // The refusal of what is no packet.
 fn refuse_nothing(room: usize) -> u32
-    ensures { result ≡ made_refusal [] Nothing 0 room }
+    ensures { result ≡ made_refusal [] None 0 room }
 {
     if room < Packet::LONGEST {
         return 9;
@@ -265,7 +256,7 @@ fn write_told(
     out: &mut [u8],
     told: &mut [u64; 2],
 ) -> u32
-    ensures { WriteTold ring.now (Of p) information.now out.old told.old result out.new told.new }
+    ensures { WriteTold ring.now (Some p) information.now out.old told.old result out.new told.new }
 {
     let number = write_packet(ring, p, information, out);
     if number != 0 {
@@ -286,7 +277,7 @@ pub fn rtep_write(
     ensures { WriteTold ring.now (made_of packet.now) information.now out.old told.old result out.new told.new }
 {
     match made_of(packet) {
-        Made::Nothing => refuse_nothing(out.len()),
-        Made::Packet(p) => write_told(ring, p, information, out, told),
+        None => refuse_nothing(out.len()),
+        Some(p) => write_told(ring, p, information, out, told),
     }
 }

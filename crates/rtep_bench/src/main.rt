@@ -1,123 +1,111 @@
 // Reads a script from standard input and prints what a ring does, frame by frame.
 #![tactic(auto)]
 
-ghost use Rattle.std.specs.Prelude.{◌≤◌, length, IfOk};
+ghost use Rattle.std.specs.Prelude.{◌≡◌, ℕ, ◌+◌, ◌≤◌, ◌<◌, IfOk, OnOk};
 
-use script::lines::Line;
-use script::reading::Held;
-use script::session::{Acted, Session};
+use bench::running::room_from;
+use script::lines::{Line, line_of};
+use script::reading::{Held, feed};
+use script::session::{ROOM, Session, obey};
 use std::io;
 use std::io::Read;
 
-// The session, the end of what is to be written, and the line that is being read.
+// A script that is being read: its session, the line in hand, and what is still to be written, the first `used` octets of `out`.
+// Buffer and end stand side by side: nothing allocates, and what prints lays octets into a lent slice from a place on.
 #[derive(Drop)]
-#[derive(Clone, Copy)]
-struct State {
+struct Script {
     session: Session,
-    used: usize,
     held: Held,
+    out: [u8; 65536],
+    used: usize,
+    ghost within: { used ≤ 65536 },
 }
 
-// Reads once, and answers how many octets came: none at the end.
-fn fill(reader: &mut impl Read, input: &mut [u8]) -> io::Result<usize>
-    ensures { IfOk result (λ n. n ≤ length input.new) }
-{
-    reader.read(&mut *input)
-}
-
-// Writes what stands in the buffer.
-fn flush(rt: &impl Print, out: &[u8], used: usize) -> io::Result<()> {
-    if used <= out.len() {
-        rt.write_all(&out[..used])?;
-    }
-    Ok(())
-}
-
-// Room for a line; what stands in the buffer is written out where it has less.
-fn make_room(rt: &impl Print, out: &[u8], used: usize) -> io::Result<usize> {
-    if script::session::ROOM <= bench::running::room_from(out, used) {
-        return Ok(used);
-    }
-    flush(rt, out, used)?;
-    Ok(0)
-}
-
-// A line with all of its steps.
-fn carry_out(rt: &impl Print, s: Session, l: Line, out: &mut [u8], at: usize) -> io::Result<Acted>
-    requires { 64 ≤ length out.old }
-{
-    let mut a = s.obey(l, &mut *out, at);
-    while 0 < a.left {
-        flush(rt, &*out, a.used)?;
-        let t = a.session;
-        a = t.obey(Line::Step(a.left), &mut *out, 0);
-    }
-    Ok(a)
-}
-
-// The octets of a block.
-fn take_in(rt: &impl Print, b: State, block: &[u8], out: &mut [u8]) -> io::Result<State>
-    requires { 64 ≤ length out.old }
-{
-    let mut session = b.session;
-    let mut used = b.used;
-    let mut held = b.held;
-    let n = block.len();
-    let mut i: usize = 0;
-    while i < n {
-        let f = script::reading::feed(held, block, i);
-        i = f.next;
-        held = f.held;
-        if !f.whole {
-            break;
+impl Script {
+    fn new() -> Script {
+        Script {
+            session: None,
+            held: Held::new(),
+            out: [0; 65536],
+            used: 0,
         }
-        let l = held.line();
-        held = Held::none();
-        used = make_room(rt, &*out, used)?;
-        if script::session::refuses(session.begun, l) {
-            used = script::session::refuse(&mut *out, used);
-            continue;
-        }
-        let a = carry_out(rt, session, l, &mut *out, used)?;
-        session = a.session;
-        used = a.used;
     }
-    Ok(State {
-        session,
-        used,
-        held,
-    })
+
+    // What stands in the buffer is written.
+    fn flush(&mut self, rt: &impl Print) -> io::Result<()>
+        ensures { OnOk result (self.new.used ≡ 0) }
+    {
+        rt.write_all(&self.out[..self.used])?;
+        self.used = 0;
+        Ok(())
+    }
+
+    // Room for a line; what stands in the buffer is written where it has less.
+    fn make_room(&mut self, rt: &impl Print) -> io::Result<()>
+        ensures { OnOk result (self.new.used + ROOM ≤ 65536) }
+    {
+        if room_from(&self.out, self.used) < ROOM {
+            self.flush(rt)?;
+        }
+        Ok(())
+    }
+
+    // What one call does of a line, and how many of its steps are left to do.
+    fn act(&mut self, rt: &impl Print, line: Option<Line>) -> io::Result<usize>
+        ensures { IfOk result (λ left. (count : ℕ) → line ≡ Some (Line.Step count) → 0 < count → left < count) }
+    {
+        self.make_room(rt)?;
+        let acted = obey(&mut self.session, line, &mut self.out, self.used).unwrap();
+        self.used = acted.used;
+        Ok(acted.left)
+    }
+
+    // A line with all of its steps. It counts no index: how many are left, each call says.
+    fn carry_out(&mut self, rt: &impl Print, line: Option<Line>) -> io::Result<()> {
+        let mut left = self.act(rt, line)?;
+        while left > 0 {
+            left = self.act(rt, Some(Line::Step(left)))?;
+        }
+        Ok(())
+    }
+
+    // The octets of a block.
+    fn take_in(&mut self, rt: &impl Print, block: &[u8]) -> io::Result<()> {
+        let mut rest = block;
+        while let Some(behind) = feed(&mut self.held, rest) {
+            let line = line_of(self.held.as_slice());
+            self.held.clear();
+            self.carry_out(rt, line)?;
+            rest = behind;
+        }
+        Ok(())
+    }
+
+    // The last line may lack its line feed.
+    fn end(&mut self, rt: &impl Print) -> io::Result<()> {
+        if !self.held.is_empty() {
+            self.take_in(rt, b"\n")?;
+        }
+        self.flush(rt)
+    }
 }
 
 // Where a read fails, the script ends; once all before that is done and printed, the answer is the error.
 fn main(rt: HostRuntime) -> io::Result<()> {
     let mut stdin = rt.stdin();
     let mut input = [0u8; 65536];
-    let mut out = [0u8; 65536];
-    let session = Session::new();
-    let held = Held::none();
-    let mut b = State {
-        session,
-        used: 0,
-        held,
-    };
+    let mut script = Script::new();
     let mut ended = Ok(());
-    let mut turns = u64::MAX;
-    while turns > 0 {
-        match fill(&mut stdin, &mut input) {
+    for _ in 0..u64::MAX {
+        match stdin.read(&mut input) {
             Ok(0) => break,
-            Ok(n) => b = take_in(&rt, b, &input[..n], &mut out)?,
+            Ok(n) => script.take_in(&rt, &input[..n])?,
             Err(e) => {
                 ended = Err(e);
                 break;
             }
         }
-        turns -= 1;
     }
-    let last = b.held;
-    if 0 < last.len {
-        b = take_in(&rt, b, b"\n", &mut out)?;
-    }
-    flush(&rt, &out, b.used)?;
+    script.end(&rt)?;
     ended
 }

@@ -1,5 +1,4 @@
 -- Laws, one idea a file.
-pub mod Words
 pub mod Numbers
 pub mod Lines
 pub mod Reading

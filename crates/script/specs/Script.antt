@@ -1,7 +1,8 @@
 -- What a script does and prints, line by line.
-use Rattle.std.specs.Prelude.{Bool, true, false, not, List, [], ◌∷◌, ◌++◌, ℕ, leb}
-use Rattle.parts.specs.Choose.{pick, all_of}
-use Rattle.bench.specs.Ring.{empty_bench, ring_of}
+use Rattle.std.specs.Prelude.{Bool, List, [], ◌∷◌, ◌++◌, ℕ, Option, Some, None}
+use Rattle.std.specs.Int.{is_in_range}
+use Rattle.parts.specs.Choose.{pick}
+use Rattle.bench.specs.Ring.{ring_of}
 use Rattle.bench.specs.Delivery.{steps}
 use Rattle.bench.specs.Calls.{queue}
 use Rattle.bench.specs.Rows.{rows_on}
@@ -9,37 +10,47 @@ use Rattle.bench.specs.Runs.{frames, stepping}
 use Rattle.bench.specs.Text.{rows_text, heading, bad_line, answer_text}
 use Rattle.script.specs.Lines.{line_of, lines_of}
 use Rattle.bench.specs.declared.ring.Bench.{Bench}
-use Rattle.script.specs.declared.session.Session.{Session}
 use Rattle.script.specs.declared.lines.Line.{Line}
-use Rattle.script.specs.declared.lines.Line.TheVariants.{Ring, Queue, Step, Bad}
+use Rattle.script.specs.declared.lines.Line.TheVariants.{Ring, Queue, Step}
+
+-- the bench of the ring that there is
+abbrev pub Session : Type 0
+Session = Option Bench
 
 abbrev pub unbegun : Session
-unbegun = record { begun = false; bench = empty_bench 0 }
+unbegun = None
 
 abbrev pub on_bench : Bench → Session
-on_bench b = record { begun = true; bench = b }
+on_bench b = Some b
 
--- an N of 2 to 64, and no ring before
-unfoldable pub opens : Bool → ℕ → Bool
-opens begun n = all_of (not begun ∷ leb 2 n ∷ leb n 64 ∷ [])
+-- an N of 2 to 64
+unfoldable pub opens : ℕ → Bool
+opens n = is_in_range 2 64 n
 
 abbrev pub ring_text : ℕ → List ℕ
 ring_text n = heading ++ rows_text (rows_on (ring_of n).wire)
 
-unfoldable pub does : Session → Line → Session
-does s Bad = s
-does s (Ring n) = pick (opens s.begun n) (on_bench (ring_of n)) s
-does s (Queue from q) =
-    pick s.begun (on_bench (queue s.bench from q).bench) s
-does s (Step count) = pick s.begun (on_bench (steps count s.bench)) s
+-- a ring begins where there is none, and queue calls and steps go to the one that there is
+unfoldable pub does : Session → Option Line → Session
+does None None = None
+does None (Some (Ring n)) = pick (opens n) (on_bench (ring_of n)) None
+does None (Some (Queue from q)) = None
+does None (Some (Step count)) = None
+does (Some b) None = on_bench b
+does (Some b) (Some (Ring n)) = on_bench b
+does (Some b) (Some (Queue from q)) = on_bench (queue b from q).bench
+does (Some b) (Some (Step count)) = on_bench (steps count b)
 
 -- "an accepted `ring` prints the heading and frame 0; a refused queue prints `refused` and the number; every frame prints a line"
-unfoldable pub prints : Session → Line → List ℕ
-prints s Bad = bad_line
-prints s (Ring n) = pick (opens s.begun n) (ring_text n) bad_line
-prints s (Queue from q) =
-    pick s.begun (answer_text (queue s.bench from q).number) bad_line
-prints s (Step count) = pick s.begun (rows_text (frames s.bench (stepping count))) bad_line
+unfoldable pub prints : Session → Option Line → List ℕ
+prints None None = bad_line
+prints None (Some (Ring n)) = pick (opens n) (ring_text n) bad_line
+prints None (Some (Queue from q)) = bad_line
+prints None (Some (Step count)) = bad_line
+prints (Some b) None = bad_line
+prints (Some b) (Some (Ring n)) = bad_line
+prints (Some b) (Some (Queue from q)) = answer_text (queue b from q).number
+prints (Some b) (Some (Step count)) = rows_text (frames b (stepping count))
 
 unfoldable pub printed : Session → List (List ℕ) → List ℕ
 printed s [] = []

@@ -1,86 +1,33 @@
 // Reading a script, block by block: the line that is being read.
-ghost use Rattle.std.specs.Prelude.{◌≡◌, drop};
-ghost use Rattle.script.specs.Lines.{line_of};
-ghost use Rattle.script.specs.Reading.{no_held, kept_of, keep_one, fed_from};
+ghost use Rattle.std.specs.Prelude.{◌≡◌, option_map};
+ghost use Rattle.script.specs.Reading.{keep_one, fed_from};
 
-use crate::lines::Line;
+use arrayvec::ArrayVec;
 
-// What is kept of a line: its first octets, up to 40, and how many those are. No good line is longer than 35.
-#[derive(Drop)]
-#[derive(Clone, Copy)]
-pub struct Held {
-    pub octets: [u8; 40],
-    pub len: usize,
-}
+// What is kept of a line: its first octets. No good line is longer than 35.
+pub type Held = ArrayVec<u8, 40>;
 
-// A line after more of it was read, the place behind, and whether its line feed has come.
-#[derive(Drop)]
-#[derive(Clone, Copy)]
-pub struct Fed {
-    pub held: Held,
-    pub next: usize,
-    pub whole: bool,
-}
-
-impl Held {
-    pub fn none() -> Held
-        ensures { result ≡ no_held }
-    {
-        Held {
-            octets: [0; 40],
-            len: 0,
-        }
-    }
-
-    // One octet more.
-    pub fn keep(self, c: u8) -> Held
-        ensures { result ≡ keep_one self c }
-    {
-        let len = self.len;
-        if len < 40 {
-            let mut h = self;
-            h.octets[len] = c;
-            h.len = len + 1;
-            return h;
-        }
-        self
-    }
-
-    // The line that the octets say.
-    pub fn line(self) -> Line
-        ensures { result ≡ line_of (kept_of self) }
-    {
-        let len = self.len;
-        let octets = self.octets;
-        if len <= 40 {
-            return crate::lines::line_of(&octets[..len]);
-        }
-        crate::lines::line_of(&octets)
-    }
-}
-
-// The octets from the place `from` on, as far as the next line feed.
-pub fn feed(h: Held, s: &[u8], from: usize) -> Fed
-    ensures { result ≡ fed_from h (drop from s.now) from }
+// One octet more, where there is room.
+fn keep(held: &mut Held, c: u8)
+    ensures { held.new.items ≡ keep_one held.old.items c }
 {
-    let l = s.len();
-    let mut held = h;
-    let mut i = from;
-    while i < l {
-        let c = s[i];
-        i += 1;
-        if c == b'\n' {
-            return Fed {
-                held,
-                next: i,
-                whole: true,
-            };
+    if !held.is_full() {
+        held.push(c);
+    }
+}
+
+// Reads on as far as the line's end, and answers what stands behind its line feed; none where that has not come.
+pub fn feed<'a>(held: &mut Held, s: &'a [u8]) -> Option<&'a [u8]>
+    ensures held { held.new.items ≡ (fed_from held.old.items s.now).held }
+    ensures rest { option_map (λ rest. rest.now) result ≡ (fed_from held.old.items s.now).rest }
+{
+    let mut rest = s;
+    while let Some((c, behind)) = rest.split_first() {
+        if *c == b'\n' {
+            return Some(behind);
         }
-        held = held.keep(c);
+        keep(held, *c);
+        rest = behind;
     }
-    Fed {
-        held,
-        next: i,
-        whole: false,
-    }
+    None
 }

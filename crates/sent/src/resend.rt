@@ -3,7 +3,7 @@ ghost use Rattle.std.specs.Prelude.{◌≡◌};
 ghost use Rattle.sent.specs.Resend.{renamed, token_again, resend};
 
 use crate::round::{Bid, Sight};
-use parts::frame::{Dispatch, Frame, TokenFrame, Whom};
+use parts::frame::{Dispatch, Frame, TokenFrame};
 
 pub fn rename(v: Sight, to: u8, b: Bid) -> Bid
     ensures { result ≡ renamed v to b }
@@ -17,7 +17,7 @@ pub fn rename(v: Sight, to: u8, b: Bid) -> Bid
 pub fn token_again(v: Sight, number: u16, to: u8, t: TokenFrame) -> Dispatch
     ensures { result ≡ token_again v number to t }
 {
-    let w = Whom::Member(to);
+    let w = Some(to);
     if t.master == v.own {
         return crate::round::start_round(v, number, w);
     }
@@ -43,12 +43,12 @@ pub fn resend(v: Sight, to: u8, f: Frame) -> Dispatch
         }
         Frame::Transmit(t) => {
             let k = parts::frame::next(t.number);
-            let w = Whom::Member(to);
+            let w = Some(to);
             crate::round::start_round(v, k, w)
         }
         Frame::Information(i) => {
             let k = parts::frame::next(i.number);
-            let w = Whom::Member(to);
+            let w = Some(to);
             crate::round::start_round(v, k, w)
         }
     }

@@ -15,8 +15,8 @@ ghost use Rattle.sent.specs.Round.{
   reply,
 };
 
-use parts::frame::{Dispatch, Frame, InformationFrame, TokenFrame, TransmitFrame, Whom};
-use parts::list::Best;
+use parts::frame::{Dispatch, Frame, InformationFrame, TokenFrame, TransmitFrame};
+use parts::list::Message;
 use parts::live::Live;
 
 // What a station looks at when it composes a frame.
@@ -26,7 +26,7 @@ pub struct Sight {
     pub own: u8,
     pub live: Live,
     pub next: u8,
-    pub head: Best,
+    pub head: Option<Message>,
 }
 
 // A token's priority and its named station.
@@ -37,13 +37,16 @@ pub struct Bid {
     pub named: u8,
 }
 
-pub fn priority_of(b: Best) -> u8
+pub fn priority_of(b: Option<Message>) -> u8
     ensures { result ≡ priority_of b }
 {
-    if b.some { b.message.priority } else { 0 }
+    match b {
+        None => 0,
+        Some(m) => m.priority,
+    }
 }
 
-pub fn start_round(v: Sight, number: u16, failing: Whom) -> Dispatch
+pub fn start_round(v: Sight, number: u16, failing: Option<u8>) -> Dispatch
     ensures { result ≡ start_round v number failing }
 {
     let priority = priority_of(v.head);
@@ -54,16 +57,14 @@ pub fn start_round(v: Sight, number: u16, failing: Whom) -> Dispatch
         failing,
         named: v.own,
     });
-    Dispatch::Sent { frame, to: v.next }
+    Some((frame, v.next))
 }
 
 // Told to send.
 pub fn send_head(v: Sight, number: u16) -> Dispatch
     ensures { result ≡ send_head v number }
 {
-    let b = v.head;
-    if b.some {
-        let m = b.message;
+    if let Some(m) = v.head {
         let frame = Frame::Information(InformationFrame {
             number,
             priority: m.priority,
@@ -71,9 +72,9 @@ pub fn send_head(v: Sight, number: u16) -> Dispatch
             length: m.length,
             place: m.place,
         });
-        return Dispatch::Sent { frame, to: m.other };
+        return Some((frame, m.other));
     }
-    start_round(v, number, Whom::Nobody)
+    start_round(v, number, None)
 }
 
 // Told to grant.
@@ -87,9 +88,9 @@ pub fn grant(v: Sight, number: u16, priority: u8, named: u8) -> Dispatch
             master: v.own,
             named,
         });
-        return Dispatch::Sent { frame, to: named };
+        return Some((frame, named));
     }
-    start_round(v, number, Whom::Nobody)
+    start_round(v, number, None)
 }
 
 // A token that comes back to its master.
@@ -97,7 +98,7 @@ pub fn returned(v: Sight, number: u16, priority: u8, named: u8) -> Dispatch
     ensures { result ≡ returned v number priority named }
 {
     if priority == 0 {
-        return start_round(v, number, Whom::Nobody);
+        return start_round(v, number, None);
     }
     if named == v.own {
         return send_head(v, number);
@@ -135,7 +136,7 @@ pub fn raised(v: Sight, b: Bid) -> Bid
     b
 }
 
-pub fn forward(v: Sight, number: u16, t: TokenFrame, failing: Whom, b: Bid) -> Dispatch
+pub fn forward(v: Sight, number: u16, t: TokenFrame, failing: Option<u8>, b: Bid) -> Dispatch
     ensures { result ≡ forward v number t failing b }
 {
     let frame = Frame::Token(TokenFrame {
@@ -145,7 +146,7 @@ pub fn forward(v: Sight, number: u16, t: TokenFrame, failing: Whom, b: Bid) -> D
         failing,
         named: b.named,
     });
-    Dispatch::Sent { frame, to: v.next }
+    Some((frame, v.next))
 }
 
 pub fn pass_on(v: Sight, number: u16, t: TokenFrame) -> Dispatch
@@ -161,7 +162,7 @@ pub fn pass_on(v: Sight, number: u16, t: TokenFrame) -> Dispatch
         let failing = t.failing;
         return forward(v, number, t, failing, d);
     }
-    start_round(v, number, Whom::Nobody)
+    start_round(v, number, None)
 }
 
 pub fn on_token(v: Sight, number: u16, t: TokenFrame) -> Dispatch
@@ -188,7 +189,7 @@ pub fn reply(v: Sight, f: Frame) -> Dispatch
         }
         Frame::Information(i) => {
             let k = parts::frame::next(i.number);
-            start_round(v, k, Whom::Nobody)
+            start_round(v, k, None)
         }
     }
 }

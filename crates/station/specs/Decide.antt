@@ -1,10 +1,10 @@
 -- What a call decides, over the turn, the live set, the position and the head, before any list is touched.
-use Rattle.std.specs.Prelude.{Bool, ℕ, eqb, ltb}
+use Rattle.std.specs.Prelude.{Bool, ℕ, eqb, ltb, Option, None, Some}
 use Rattle.parts.specs.Choose.{pick}
 use Rattle.parts.specs.Moves.{move_of, runs}
 use Rattle.parts.specs.Messages.{best}
 use Rattle.parts.specs.Live.{without, successor}
-use Rattle.parts.specs.Frames.{number_of, flight, no_flight, failing_of}
+use Rattle.parts.specs.Frames.{number_of, flight, failing_of, Dispatch}
 use Rattle.sent.specs.Round.{reply, start_round}
 use Rattle.sent.specs.Resend.{resend}
 use Rattle.station.specs.Stations.{state_of, awaited_of, quiet_turn, sending_turn, more_turn}
@@ -13,21 +13,14 @@ use Rattle.station.specs.Deeds.{verdict, refused, turned}
 use Rattle.parts.specs.declared.moves.State.TheVariants.{Idle, Alone, Excluded}
 use Rattle.parts.specs.declared.moves.Event.TheVariants.{Start, Heard, Timer}
 use Rattle.parts.specs.declared.live.Live.{Live}
-use Rattle.parts.specs.declared.list.Flight.{Flight}
 use Rattle.parts.specs.declared.list.Which.{Which}
 use Rattle.parts.specs.declared.list.Which.TheVariants.{AnyWaiting, WaitingForOthers}
-use Rattle.parts.specs.declared.frame.Whom.{Whom}
-use Rattle.parts.specs.declared.frame.Whom.TheVariants.{Nobody, Member}
+use Rattle.parts.specs.declared.list.Message.{Message}
 use Rattle.parts.specs.declared.frame.Frame.{Frame}
 use Rattle.parts.specs.declared.frame.Frame.TheVariants.{Token, Transmit, Information}
-use Rattle.parts.specs.declared.frame.Dispatch.{Dispatch}
-use Rattle.parts.specs.declared.frame.Dispatch.TheVariants.{Nothing, Sent}
 use Rattle.sent.specs.declared.round.Sight.{Sight}
-use Rattle.station.specs.declared.station.Handled.TheVariants.{Last}
 use Rattle.station.specs.declared.station.Turn.{Turn}
 use Rattle.station.specs.declared.station.Station.{Station}
-use Rattle.station.specs.declared.station.Payload.{Payload}
-use Rattle.station.specs.declared.station.Payload.TheVariants.{NoPayload, Of}
 use Rattle.station.specs.declared.rules.deeds.Blow.{Blow}
 use Rattle.station.specs.declared.rules.deeds.Blow.TheVariants as blow
 use Rattle.station.specs.declared.rules.deeds.Deeds.{Deeds}
@@ -37,15 +30,15 @@ use Rattle.station.specs.declared.rules.heard.Course.{Course}
 
 -- ---- what the station looks at once `w` is struck: neither the message in flight nor those to `w` compete for the head
 
-unfoldable pub live_without : Live → Whom → Live
-live_without l Nobody = l
-live_without l (Member p) = without l p
+unfoldable pub live_without : Live → Option ℕ → Live
+live_without l None = l
+live_without l (Some p) = without l p
 
-unfoldable pub competing : Flight → Whom → Which
-competing f Nobody = AnyWaiting f
-competing f (Member p) = WaitingForOthers f p
+unfoldable pub competing : Option ℕ → Option ℕ → Which
+competing f None = AnyWaiting f
+competing f (Some p) = WaitingForOthers f p
 
-abbrev pub sight_after : Station → Whom → Sight
+abbrev pub sight_after : Station → Option ℕ → Sight
 sight_after s w =
     record {
       own = s.own;
@@ -59,8 +52,8 @@ sight_after s w =
 unfoldable pub rested : Turn → Bool → Turn
 rested t acked = pick acked (quiet_turn t Idle) t
 
-unfoldable pub lands_by : Turn → Bool → Flight
-lands_by t acked = pick acked (flight t.awaited) no_flight
+unfoldable pub lands_by : Turn → Bool → Option ℕ
+lands_by t acked = pick acked (flight t.awaited) None
 
 -- ---- 3, a failing station
 
@@ -70,9 +63,9 @@ blow_at l n own p =
     (blow.Itself p)
     (pick (eqb (successor (without l p) n own) own) (blow.Last p) (blow.Another p))
 
-unfoldable pub blow_of : Live → ℕ → ℕ → Whom → Blow
-blow_of l n own Nobody = blow.Spares
-blow_of l n own (Member p) = blow_at l n own p
+unfoldable pub blow_of : Live → ℕ → ℕ → Option ℕ → Blow
+blow_of l n own None = blow.Spares
+blow_of l n own (Some p) = blow_at l n own p
 
 -- the turn then
 unfoldable pub closed : Turn → Blow → Turn
@@ -89,27 +82,27 @@ course_of s f acked =
         lands = lands_by s.turn acked;
         flight = flight (rested s.turn acked).awaited;
         blow = blow_of s.live s.n s.own (failing_of f);
-        stores = NoPayload;
+        stores = None;
       };
     }
 
 -- ---- 4 and 5
 
-unfoldable pub to_store : Station → ℕ → Frame → Payload
-to_store s from (Token t) = NoPayload
-to_store s from (Transmit t) = NoPayload
-to_store s from (Information i) = Of (heard_message s from i)
+unfoldable pub to_store : Station → ℕ → Frame → Option Message
+to_store s from (Token t) = None
+to_store s from (Transmit t) = None
+to_store s from (Information i) = Some (heard_message s from i)
 
-abbrev pub stores_too : Deeds → Payload → Deeds
+abbrev pub stores_too : Deeds → Option Message → Deeds
 stores_too d p = record { lands = d.lands; flight = d.flight; blow = d.blow; stores = p }
 
 abbrev pub quietly : Course → Verdict
-quietly k = verdict 0 k.turn Nothing k.deeds
+quietly k = verdict 0 k.turn None k.deeds
 
 unfoldable pub replying : Station → Frame → ℕ → Course → Verdict
 replying s f from k =
     verdict 0
-    (sending_turn (Last (number_of f)) (reply (sight_after s (failing_of f)) f))
+    (sending_turn (Some (number_of f)) (reply (sight_after s (failing_of f)) f))
     (reply (sight_after s (failing_of f)) f)
     (stores_too k.deeds (to_store s from f))
 
@@ -135,7 +128,7 @@ turned_by s f from to =
 -- the last timer of a frame to `to`
 abbrev pub strikes_out : Station → ℕ → Turn → Dispatch → Verdict
 strikes_out s to t d =
-    verdict 0 t d (record { lands = no_flight; flight = flight (awaited_of s); blow = blow.Last to; stores = NoPayload })
+    verdict 0 t d (record { lands = None; flight = flight (awaited_of s); blow = blow.Last to; stores = None })
 
 abbrev pub going_on : Station → ℕ → Dispatch → Verdict
 going_on s to d = strikes_out s to (sending_turn s.turn.handled d) d
@@ -143,8 +136,8 @@ going_on s to d = strikes_out s to (sending_turn s.turn.handled d) d
 unfoldable pub last_timer : Station → ℕ → Frame → Verdict
 last_timer s to f =
     pick (eqb (successor (without s.live to) s.n s.own) s.own)
-    (strikes_out s to (quiet_turn s.turn Alone) Nothing)
-    (going_on s to (resend (sight_after s (Member to)) to f))
+    (strikes_out s to (quiet_turn s.turn Alone) None)
+    (going_on s to (resend (sight_after s (Some to)) to f))
 
 abbrev pub beginning : Station → Dispatch → Verdict
 beginning s d = turned (sending_turn s.turn.handled d) d
@@ -152,8 +145,8 @@ beginning s d = turned (sending_turn s.turn.handled d) d
 unfoldable pub starting : Station → Verdict
 starting s =
     pick (eqb s.own 0)
-    (beginning s (start_round (sight_after s Nobody) 0 Nobody))
-    (turned (quiet_turn s.turn Idle) Nothing)
+    (beginning s (start_round (sight_after s None) 0 None))
+    (turned (quiet_turn s.turn Idle) None)
 
 -- after the table of moves
 
@@ -170,8 +163,8 @@ decided_silence s to f =
     (last_timer s to f)
 
 unfoldable pub decided_awaiting : Station → Dispatch → Verdict
-decided_awaiting s Nothing = refused s.turn 0
-decided_awaiting s (Sent frame to) = decided_silence s to frame
+decided_awaiting s None = refused s.turn 0
+decided_awaiting s (Some (frame, to)) = decided_silence s to frame
 
 unfoldable pub decided_timer : Station → Verdict
 decided_timer s =

@@ -1,26 +1,20 @@
 -- What is done to a station once it is decided: who leaves the send list, why and in which order; who is struck; what is stored.
-use Rattle.std.specs.Prelude.{Bool, true, false, ℕ, leb}
+use Rattle.std.specs.Prelude.{Bool, true, false, ℕ, leb, Option, None, Some, is_some}
+use Rattle.std.specs.Option.{option_map_or}
 use Rattle.parts.specs.Choose.{pick}
 use Rattle.parts.specs.Messages.{none, pushed, split_by, best}
 use Rattle.parts.specs.Live.{without}
-use Rattle.parts.specs.Frames.{no_flight}
+use Rattle.parts.specs.Frames.{Dispatch}
 use Rattle.parts.specs.Live.{newly}
 use Rattle.station.specs.Stations.{station_by, with_turn, add_up_to}
 use Rattle.parts.specs.declared.live.Live.{Live}
 use Rattle.parts.specs.declared.list.Message.{Message}
 use Rattle.parts.specs.declared.list.Messages.{Messages}
 use Rattle.parts.specs.declared.list.Parts.{Parts}
-use Rattle.parts.specs.declared.list.Flight.{Flight}
 use Rattle.parts.specs.declared.list.Which.TheVariants.{WaitingFor, HasPlace}
-use Rattle.parts.specs.declared.frame.Whom.{Whom}
-use Rattle.parts.specs.declared.frame.Whom.TheVariants.{Nobody}
-use Rattle.parts.specs.declared.frame.Dispatch.{Dispatch}
-use Rattle.parts.specs.declared.frame.Dispatch.TheVariants.{Nothing}
 use Rattle.station.specs.declared.station.Turn.{Turn}
 use Rattle.station.specs.declared.station.Station.{Station}
 use Rattle.station.specs.declared.station.Answer.{Answer}
-use Rattle.station.specs.declared.station.Payload.{Payload}
-use Rattle.station.specs.declared.station.Payload.TheVariants.{NoPayload, Of}
 use Rattle.station.specs.declared.rules.deeds.Blow.{Blow}
 use Rattle.station.specs.declared.rules.deeds.Blow.TheVariants.{Spares, Another, Last, Itself}
 use Rattle.station.specs.declared.rules.deeds.Deeds.{Deeds}
@@ -30,7 +24,7 @@ use Rattle.station.specs.declared.rules.deeds.Received.{Received}
 -- ---- what is to be done
 
 abbrev pub no_deeds : Deeds
-no_deeds = record { lands = no_flight; flight = no_flight; blow = Spares; stores = NoPayload }
+no_deeds = record { lands = None; flight = None; blow = Spares; stores = None }
 
 -- ---- whether the turn alone changes
 
@@ -40,12 +34,12 @@ spares (Another p) = false
 spares (Last p) = false
 spares (Itself p) = false
 
-abbrev pub stores_none : Payload → Bool
-stores_none NoPayload = true
-stores_none (Of m) = false
+abbrev pub stores_none : Option Message → Bool
+stores_none None = true
+stores_none (Some m) = false
 
 unfoldable pub untouched : Deeds → Bool
-untouched d = pick d.lands.on false (pick (spares d.blow) (stores_none d.stores) false)
+untouched d = pick (is_some d.lands) false (pick (spares d.blow) (stores_none d.stores) false)
 
 -- ---- what was decided
 
@@ -54,7 +48,7 @@ verdict number t d e = record { alone = untouched e; turn = t; sent = d; number 
 
 -- a number alone: the turn stays
 abbrev pub refused : Turn → ℕ → Verdict
-refused t number = verdict number t Nothing no_deeds
+refused t number = verdict number t None no_deeds
 
 -- the turn after the call and the frame to send, and nothing else
 abbrev pub turned : Turn → Dispatch → Verdict
@@ -63,39 +57,37 @@ turned t d = verdict 0 t d no_deeds
 -- ---- the send list
 
 -- an acknowledged message in flight leaves
-unfoldable pub landing : Flight → Messages → Messages
-landing f l = pick f.on (split_by (HasPlace f.place) l).kept l
+unfoldable pub landing : Option ℕ → Messages → Messages
+landing f l = option_map_or (λ (p : ℕ). (split_by (HasPlace p) l).kept) f l
 
 -- the message at a place is given up, after those that were before
 unfoldable pub also_at : Parts → ℕ → Parts
 also_at d p =
-    pick (best (HasPlace p) d.kept).some
-    (record { kept = (split_by (HasPlace p) d.kept).kept; gone = pushed d.gone (best (HasPlace p) d.kept).message })
-    d
+    option_map_or (λ (m : Message). record { kept = (split_by (HasPlace p) d.kept).kept; gone = pushed d.gone m }) (best (HasPlace p) d.kept) d
 
 -- any message in flight is given up
-unfoldable pub also_flight : Parts → Flight → Parts
-also_flight d f = pick f.on (also_at d f.place) d
+unfoldable pub also_flight : Parts → Option ℕ → Parts
+also_flight d f = option_map_or (also_at d) f d
 
 abbrev pub all_stay : Messages → Parts
 all_stay l = record { kept = l; gone = none }
 
 -- those that are given up with a station that is struck: the waiting ones to it, where f is in flight
-unfoldable pub waiters_leave : Blow → Flight → Messages → Parts
+unfoldable pub waiters_leave : Blow → Option ℕ → Messages → Parts
 waiters_leave Spares f l = all_stay l
 waiters_leave (Another p) f l = split_by (WaitingFor f p) l
 waiters_leave (Last p) f l = split_by (WaitingFor f p) l
 waiters_leave (Itself p) f l = all_stay l
 
 -- and the one in flight, where it goes too
-unfoldable pub flight_leaves : Blow → Flight → Flight
-flight_leaves Spares f = no_flight
-flight_leaves (Another p) f = no_flight
+unfoldable pub flight_leaves : Blow → Option ℕ → Option ℕ
+flight_leaves Spares f = None
+flight_leaves (Another p) f = None
 flight_leaves (Last p) f = f
 flight_leaves (Itself p) f = f
 
 -- who is given up with a station that is struck, in order, where f is in flight
-unfoldable pub leaving : Blow → Flight → Messages → Parts
+unfoldable pub leaving : Blow → Option ℕ → Messages → Parts
 leaving Spares f l = all_stay l
 leaving (Another p) f l = split_by (WaitingFor f p) l
 leaving (Last p) f l = also_flight (split_by (WaitingFor f p) l) f
@@ -113,8 +105,8 @@ live_after l (Another p) = without l p
 live_after l (Last p) = without l p
 live_after l (Itself p) = without l p
 
-unfoldable pub struck_by : Live → Blow → Whom
-struck_by l Spares = Nobody
+unfoldable pub struck_by : Live → Blow → Option ℕ
+struck_by l Spares = None
 struck_by l (Another p) = newly l p
 struck_by l (Last p) = newly l p
 struck_by l (Itself p) = newly l p
@@ -125,12 +117,12 @@ struck_by l (Itself p) = newly l p
 unfoldable pub received_one : Messages → ℕ → Message → Received
 received_one l lost m =
     pick (leb 16 l.len)
-    (record { list = l; lost = add_up_to lost 1; payload = NoPayload })
-    (record { list = pushed l m; lost = lost; payload = Of m })
+    (record { list = l; lost = add_up_to lost 1; payload = None })
+    (record { list = pushed l m; lost = lost; payload = Some m })
 
-unfoldable pub received : Messages → ℕ → Payload → Received
-received l lost NoPayload = record { list = l; lost = lost; payload = NoPayload }
-received l lost (Of m) = received_one l lost m
+unfoldable pub received : Messages → ℕ → Option Message → Received
+received l lost None = record { list = l; lost = lost; payload = None }
+received l lost (Some m) = received_one l lost m
 
 -- the station once messages have left and one is stored
 abbrev pub touched : Station → Verdict → Parts → Received → Station
@@ -164,9 +156,9 @@ turn_alone s v =
       station = with_turn s v.turn;
       number = v.number;
       sent = v.sent;
-      struck = Nobody;
+      struck = None;
       gone = none;
-      payload = NoPayload;
+      payload = None;
     }
 
 -- where the turn alone changes, no list is looked at

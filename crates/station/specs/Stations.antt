@@ -1,26 +1,20 @@
 -- The station's fields, and what a call answers.
-use Rattle.std.specs.Prelude.{Bool, ℕ, ◌+◌, ◌-◌, leb, eqb}
+use Rattle.std.specs.Prelude.{Bool, ℕ, ◌+◌, ◌-◌, leb, eqb, Option, None}
 use Rattle.parts.specs.Choose.{pick}
 use Rattle.parts.specs.Moves.{move_of, runs}
 use Rattle.parts.specs.Messages.{none, best}
 use Rattle.parts.specs.Live.{full, successor}
-use Rattle.parts.specs.Frames.{flight}
+use Rattle.parts.specs.Frames.{flight, Dispatch}
 use Rattle.parts.specs.declared.moves.State.{State}
 use Rattle.parts.specs.declared.moves.State.TheVariants.{Offline, Waiting}
 use Rattle.parts.specs.declared.moves.Event.{Event}
 use Rattle.parts.specs.declared.live.Live.{Live}
 use Rattle.parts.specs.declared.list.Messages.{Messages}
-use Rattle.parts.specs.declared.list.Best.{Best}
+use Rattle.parts.specs.declared.list.Message.{Message}
 use Rattle.parts.specs.declared.list.Which.TheVariants.{AnyWaiting}
-use Rattle.parts.specs.declared.frame.Whom.TheVariants.{Nobody}
-use Rattle.parts.specs.declared.frame.Dispatch.{Dispatch}
-use Rattle.parts.specs.declared.frame.Dispatch.TheVariants.{Nothing}
-use Rattle.station.specs.declared.station.Handled.{Handled}
-use Rattle.station.specs.declared.station.Handled.TheVariants.{Never}
 use Rattle.station.specs.declared.station.Turn.{Turn}
 use Rattle.station.specs.declared.station.Counts.{Counts}
 use Rattle.station.specs.declared.station.Station.{Station}
-use Rattle.station.specs.declared.station.Payload.TheVariants.{NoPayload}
 use Rattle.station.specs.declared.station.Answer.{Answer}
 
 -- ---- a station of its parts, and one part anew
@@ -68,7 +62,7 @@ abbrev pub awaited_of : Station → Dispatch
 awaited_of s = s.turn.awaited
 
 abbrev pub new_turn : Turn
-new_turn = record { state = Offline; awaited = Nothing; handled = Never; retries = 0 }
+new_turn = record { state = Offline; awaited = None; handled = None; retries = 0 }
 
 abbrev pub new_counts : Counts
 new_counts = record { lost = 0; givenup = 0 }
@@ -80,16 +74,16 @@ made n limit own =
 
 -- in a state with no frame awaited; the retry count stays
 abbrev pub quiet_turn : Turn → State → Turn
-quiet_turn t st = record { state = st; awaited = Nothing; handled = t.handled; retries = t.retries }
+quiet_turn t st = record { state = st; awaited = None; handled = t.handled; retries = t.retries }
 
 abbrev pub quiet : Station → State → Station
 quiet s st = with_turn s (quiet_turn s.turn st)
 
 -- a frame is sent: "the station becomes Waiting with retry count 0"
-abbrev pub sending_turn : Handled → Dispatch → Turn
+abbrev pub sending_turn : Option ℕ → Dispatch → Turn
 sending_turn handled d = record { state = Waiting; awaited = d; handled = handled; retries = 0 }
 
-abbrev pub sending : Station → Handled → Dispatch → Station
+abbrev pub sending : Station → Option ℕ → Dispatch → Station
 sending s handled d = with_turn s (sending_turn handled d)
 
 -- one retry more
@@ -109,14 +103,14 @@ abbrev pub alone : Station → Bool
 alone s = eqb (successor s.live s.n s.own) s.own
 
 -- "the head is the waiting message with the highest priority, the earliest accepted among equals; the one in flight does not wait"
-unfoldable pub head : Station → Best
+unfoldable pub head : Station → Option Message
 head s = best (AnyWaiting (flight (awaited_of s))) s.sends
 
 -- ---- answers
 
 -- a number alone: the station as it came, nothing sent, nobody told
 abbrev pub answered : Station → ℕ → Answer
-answered s number = record { station = s; number = number; sent = Nothing; struck = Nobody; gone = none; payload = NoPayload }
+answered s number = record { station = s; number = number; sent = None; struck = None; gone = none; payload = None }
 
 -- the table of moves is looked up before a call acts
 unfoldable pub moved : Station → Event → Answer → Answer

@@ -1,15 +1,14 @@
 -- Striking a station, giving messages up, and telling both.
-use Rattle.std.specs.Prelude.{ℕ}
-use Rattle.parts.specs.Choose.{pick}
+use Rattle.std.specs.Prelude.{ℕ, Option}
+use Rattle.std.specs.Option.{option_map_or}
 use Rattle.parts.specs.Messages.{none, best, split_by, pushed}
 use Rattle.parts.specs.Live.{without}
 use Rattle.parts.specs.Frames.{flight}
 use Rattle.station.specs.Stations.{with_live, with_sends, quiet, counted, awaited_of}
 use Rattle.parts.specs.declared.moves.State.{State}
-use Rattle.parts.specs.declared.list.Best.{Best}
+use Rattle.parts.specs.declared.list.Message.{Message}
 use Rattle.parts.specs.declared.list.Messages.{Messages}
 use Rattle.parts.specs.declared.list.Which.TheVariants.{WaitingFor, HasPlace}
-use Rattle.parts.specs.declared.frame.Whom.{Whom}
 use Rattle.station.specs.declared.station.Station.{Station}
 
 -- a station and the messages that have left its send list, in order, not counted yet
@@ -20,7 +19,7 @@ pub record Loss : Type 0 where
 -- a station after a striking: who is newly struck, and the messages given up
 pub record Struck : Type 0 where
   pub station : Station
-  pub struck : Whom
+  pub struck : Option ℕ
   pub gone : Messages
 
 -- `p` is struck from the live set
@@ -40,7 +39,7 @@ give_up_to s p =
     }
 
 -- the message at a place of the send list, if there is one
-abbrev pub message_at : Station → ℕ → Best
+abbrev pub message_at : Station → ℕ → Option Message
 message_at s p = best (HasPlace p) s.sends
 
 -- the message at a place leaves the send list
@@ -50,21 +49,18 @@ leave s p = with_sends s (split_by (HasPlace p) s.sends).kept
 -- a message at a place is given up, after those that were before
 unfoldable pub give_up_at : Loss → ℕ → Loss
 give_up_at l p =
-    pick (message_at l.station p).some
-    (record { station = leave l.station p; gone = pushed l.gone (message_at l.station p).message })
-    l
+    option_map_or (λ (m : Message). record { station = leave l.station p; gone = pushed l.gone m }) (message_at l.station p) l
 
 -- any message in flight is given up
 unfoldable pub give_up_flight : Loss → Loss
-give_up_flight l =
-    pick (flight (awaited_of l.station)).on (give_up_at l (flight (awaited_of l.station)).place) l
+give_up_flight l = option_map_or (give_up_at l) (flight (awaited_of l.station)) l
 
 -- what was given up is counted, and told with the station newly struck
-abbrev pub told : Loss → Whom → Struck
+abbrev pub told : Loss → Option ℕ → Struck
 told l w = record { station = counted l.station l.gone.len; struck = w; gone = l.gone }
 
 -- "at Excluded and Alone a message in flight is given up and nothing more happens"
-abbrev pub stopped : Loss → Whom → State → Struck
+abbrev pub stopped : Loss → Option ℕ → State → Struck
 stopped l w st =
     record {
       station = quiet (told (give_up_flight l) w).station st;

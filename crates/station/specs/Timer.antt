@@ -1,8 +1,8 @@
 -- "Timer while Waiting."
-use Rattle.std.specs.Prelude.{ℕ, ltb}
+use Rattle.std.specs.Prelude.{ℕ, ltb, None, Some}
 use Rattle.parts.specs.Choose.{pick}
 use Rattle.parts.specs.Messages.{none}
-use Rattle.parts.specs.Frames.{next}
+use Rattle.parts.specs.Frames.{next, Dispatch}
 use Rattle.sent.specs.Resend.{resend}
 use Rattle.station.specs.Stations.{with_turn, more_turn, awaited_of, quiet, sending, alone, answered, moved}
 use Rattle.station.specs.Sight.{sight}
@@ -10,13 +10,9 @@ use Rattle.station.specs.Strike.{Struck, strike, give_up_to, give_up_flight, tol
 use Rattle.parts.specs.Live.{newly}
 use Rattle.parts.specs.declared.moves.State.TheVariants.{Idle, Alone}
 use Rattle.parts.specs.declared.moves.Event.TheVariants.{Timer}
-use Rattle.parts.specs.declared.frame.Whom.TheVariants.{Nobody}
 use Rattle.parts.specs.declared.frame.Frame.{Frame}
 use Rattle.parts.specs.declared.frame.Frame.TheVariants.{Token, Transmit, Information}
-use Rattle.parts.specs.declared.frame.Dispatch.{Dispatch}
-use Rattle.parts.specs.declared.frame.Dispatch.TheVariants.{Nothing, Sent}
 use Rattle.station.specs.declared.station.Station.{Station}
-use Rattle.station.specs.declared.station.Payload.TheVariants.{NoPayload}
 use Rattle.station.specs.declared.station.Answer.{Answer}
 
 -- ---- below R: "the same frame goes again, same number, count one more"
@@ -27,7 +23,7 @@ once_more s = with_turn s (more_turn s.turn)
 abbrev pub again : Station → Answer
 again s =
     record
-    { station = once_more s; number = 0; sent = awaited_of s; struck = Nobody; gone = none; payload = NoPayload }
+    { station = once_more s; number = 0; sent = awaited_of s; struck = None; gone = none; payload = None }
 
 -- ---- the last timer, for a frame to `to`
 
@@ -39,7 +35,7 @@ unanswered s to = told (give_up_flight (give_up_to (strike s to) to)) (newly s.l
 abbrev pub left_alone : Struck → Answer
 left_alone k =
     record
-    { station = quiet k.station Alone; number = 0; sent = Nothing; struck = k.struck; gone = k.gone; payload = NoPayload }
+    { station = quiet k.station Alone; number = 0; sent = None; struck = k.struck; gone = k.gone; payload = None }
 
 -- a frame of retry count 0
 abbrev pub goes_on : Struck → Dispatch → Answer
@@ -50,7 +46,7 @@ goes_on k d =
       sent = d;
       struck = k.struck;
       gone = k.gone;
-      payload = NoPayload;
+      payload = None;
     }
 
 unfoldable pub after_strike : Struck → ℕ → Frame → Answer
@@ -63,8 +59,8 @@ silence s to f = pick (ltb s.turn.retries s.limit) (again s) (after_strike (unan
 
 -- a Waiting station awaits a frame; without one there is nothing to do
 unfoldable pub on_timer : Station → Dispatch → Answer
-on_timer s Nothing = answered s 0
-on_timer s (Sent frame to) = silence s to frame
+on_timer s None = answered s 0
+on_timer s (Some (frame, to)) = silence s to frame
 
 unfoldable pub timer_rule : Station → Answer
 timer_rule s = moved s Timer (on_timer s (awaited_of s))

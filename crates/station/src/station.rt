@@ -12,18 +12,10 @@ ghost use Rattle.station.specs.Stations.{
   alone,
 };
 
-use parts::frame::{Dispatch, Whom};
+use parts::frame::Dispatch;
 use parts::list::{Message, Messages};
 use parts::live::Live;
 use parts::moves::State;
-
-// The last handled number, or none.
-#[derive(Drop)]
-#[derive(Clone, Copy)]
-pub enum Handled {
-    Never,
-    Last(u16),
-}
 
 // Where the station stands: its state, the frame it awaits an acknowledgement for, the last handled number, the retry count.
 #[derive(Drop)]
@@ -31,7 +23,7 @@ pub enum Handled {
 pub struct Turn {
     pub state: State,
     pub awaited: Dispatch,
-    pub handled: Handled,
+    pub handled: Option<u16>,
     pub retries: u8,
 }
 
@@ -57,14 +49,6 @@ pub struct Station {
     pub counts: Counts,
 }
 
-// Whose payload a call moves, or none: queue and frame put it into the message's place, take hands it out.
-#[derive(Drop)]
-#[derive(Clone, Copy)]
-pub enum Payload {
-    NoPayload,
-    Of(Message),
-}
-
 // What every call answers: the station handed back, the number, the frame to send, the station newly struck, the messages
 // given up in order, the message whose payload moves.
 #[derive(Drop)]
@@ -73,9 +57,9 @@ pub struct Answer {
     pub station: Station,
     pub number: u32,
     pub sent: Dispatch,
-    pub struck: Whom,
+    pub struck: Option<u8>,
     pub gone: Messages,
-    pub payload: Payload,
+    pub payload: Option<Message>,
 }
 
 pub fn with_sends(s: Station, l: Messages) -> Station
@@ -101,14 +85,14 @@ pub fn resting(t: Turn, state: State) -> Turn
     let handled = t.handled;
     Turn {
         state,
-        awaited: Dispatch::Nothing,
+        awaited: None,
         handled,
         retries: t.retries,
     }
 }
 
 // Waiting for the acknowledgement of `d`, with `handled` as the last handled number.
-pub fn waiting(handled: Handled, d: Dispatch) -> Turn
+pub fn waiting(handled: Option<u16>, d: Dispatch) -> Turn
     ensures { result ≡ sending_turn handled d }
 {
     Turn {
@@ -156,10 +140,10 @@ pub fn answered(s: Station, number: u32) -> Answer
     Answer {
         station: s,
         number,
-        sent: Dispatch::Nothing,
-        struck: Whom::Nobody,
+        sent: None,
+        struck: None,
         gone,
-        payload: Payload::NoPayload,
+        payload: None,
     }
 }
 
@@ -180,8 +164,8 @@ impl Station {
         let receives = parts::list::empty();
         let turn = Turn {
             state: State::Offline,
-            awaited: Dispatch::Nothing,
-            handled: Handled::Never,
+            awaited: None,
+            handled: None,
             retries: 0,
         };
         let counts = Counts {

@@ -1,27 +1,25 @@
 -- "A frame is awaited exactly when Waiting, fit to write and to another member, and a message is in flight exactly when that frame is
 -- its information frame", in plain facts.
-use Rattle.std.specs.Prelude.{◌≡◌, ℕ, ◌<◌, ◌≤◌}
+use Rattle.std.specs.Prelude.{◌≡◌, ℕ, ◌<◌, ◌≤◌, None, Some}
 use mathlib.Core.List.{Memᴰ}
 use Rattle.parts.specs.Messages.{all}
 use Rattle.parts.specs.declared.moves.State.{State}
 use Rattle.parts.specs.declared.moves.State.TheVariants.{Waiting}
 use Rattle.parts.specs.declared.list.Message.{Message}
 use Rattle.parts.specs.declared.list.Messages.{Messages}
-use Rattle.parts.specs.declared.frame.Whom.TheVariants.{Member}
 use Rattle.parts.specs.declared.frame.TokenFrame.{TokenFrame}
 use Rattle.parts.specs.declared.frame.TransmitFrame.{TransmitFrame}
 use Rattle.parts.specs.declared.frame.InformationFrame.{InformationFrame}
 use Rattle.parts.specs.declared.frame.Frame.{Frame}
 use Rattle.parts.specs.declared.frame.Frame.TheVariants.{Token, Transmit, Information}
-use Rattle.parts.specs.declared.frame.Dispatch.{Dispatch}
-use Rattle.parts.specs.declared.frame.Dispatch.TheVariants.{Nothing, Sent}
+use Rattle.parts.specs.Frames.{Dispatch}
 
 -- ---- fit to write: members, and fields in range
 
 pub record FitToken (n : ℕ) (t : TokenFrame) : Type 0 where
   pub master_member : t.master < n
   pub named_member : t.named < n
-  pub failing_member : (p : ℕ) → t.failing ≡ Member p → p < n
+  pub failing_member : (p : ℕ) → t.failing ≡ Some p → p < n
 
 pub record FitTransmit (n : ℕ) (t : TransmitFrame) : Type 0 where
   pub some_priority : t.priority ≡ 0 → ⊥
@@ -63,6 +61,6 @@ pub record Proper (n own : ℕ) (l : Messages) (f : Frame) (to : ℕ) : Type 0 w
   pub carries : Carrying l f to
 
 pub record Awaited (st : State) (n own : ℕ) (l : Messages) (d : Dispatch) : Type 0 where
-  pub one_when_waiting : st ≡ Waiting → (f : Frame) × (to : ℕ) × (d ≡ Sent f to)
-  pub none_otherwise : (st ≡ Waiting → ⊥) → d ≡ Nothing
-  pub each_proper : (f : Frame) (to : ℕ) → d ≡ Sent f to → Proper n own l f to
+  pub one_when_waiting : st ≡ Waiting → (f : Frame) × (to : ℕ) × (d ≡ Some (f, to))
+  pub none_otherwise : (st ≡ Waiting → ⊥) → d ≡ None
+  pub each_proper : (f : Frame) (to : ℕ) → d ≡ Some (f, to) → Proper n own l f to

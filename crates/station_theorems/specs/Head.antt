@@ -1,8 +1,7 @@
 -- "The head is the waiting message with the highest priority, the earliest accepted among equals."
-use Rattle.std.specs.Prelude.{◌≡◌, true, false, ◌<◌, ◌≤◌}
+use Rattle.std.specs.Prelude.{◌≡◌, true, false, ◌<◌, ◌≤◌, Option, None, Some}
 use mathlib.Core.List.{List, ◌∷◌, ◌++◌, Memᴰ}
 use Rattle.parts.specs.declared.list.Message.{Message}
-use Rattle.parts.specs.declared.list.Best.{Best}
 use Rattle.parts.specs.declared.list.Which.{Which}
 use Rattle.parts.specs.Messages.{fits}
 
@@ -16,6 +15,6 @@ pub record First (w : Which) (ms : List Message) (m : Message) : Type 0 where
   pub none_higher_behind : (x : Message) → Memᴰ x behind → fits w x ≡ true → x.priority ≤ m.priority
 
 -- what a search of the list has found
-pub record Chosen (w : Which) (ms : List Message) (b : Best) : Type 0 where
-  pub first : b.some ≡ true → First w ms b.message
-  pub none_fits : b.some ≡ false → (x : Message) → Memᴰ x ms → fits w x ≡ false
+pub record Chosen (w : Which) (ms : List Message) (b : Option Message) : Type 0 where
+  pub first : (m : Message) → b ≡ Some m → First w ms m
+  pub none_fits : b ≡ None → (x : Message) → Memᴰ x ms → fits w x ≡ false

@@ -1,17 +1,13 @@
 -- Numbers within their types' ranges where wholeness says nothing of them: frame numbers, priorities, counts.
-use Rattle.std.specs.Prelude.{◌≡◌, Bool, true, ℕ, ◌<◌, ltb, length}
+use Rattle.std.specs.Prelude.{◌≡◌, Bool, true, ℕ, ◌<◌, ltb, length, Option, None, Some}
 use Rattle.parts.specs.Choose.{every}
 use Rattle.parts.specs.Messages.{all}
-use Rattle.parts.specs.Frames.{number_of}
+use Rattle.parts.specs.Frames.{number_of, Dispatch}
 use Rattle.station.specs.Stations.{awaited_of}
 use Rattle.parts.specs.declared.list.Message.{Message}
 use Rattle.parts.specs.declared.list.Messages.{Messages}
 use Rattle.parts.specs.declared.frame.Frame.{Frame}
 use Rattle.parts.specs.declared.frame.Frame.TheVariants.{Token, Transmit, Information}
-use Rattle.parts.specs.declared.frame.Dispatch.{Dispatch}
-use Rattle.parts.specs.declared.frame.Dispatch.TheVariants.{Nothing, Sent}
-use Rattle.station.specs.declared.station.Handled.{Handled}
-use Rattle.station.specs.declared.station.Handled.TheVariants.{Never, Last}
 use Rattle.station.specs.declared.station.Station.{Station}
 
 -- ---- what a station holds
@@ -29,12 +25,12 @@ pub record SmallFrame (f : Frame) : Type 0 where
   pub priority : frame_priority f < 256
 
 abbrev pub SmallDispatch : Dispatch → Type 0
-SmallDispatch Nothing = Unit {0}
-SmallDispatch (Sent frame to) = SmallFrame frame
+SmallDispatch None = Unit {0}
+SmallDispatch (Some (frame, to)) = SmallFrame frame
 
-abbrev pub SmallHandled : Handled → Type 0
-SmallHandled Never = Unit {0}
-SmallHandled (Last k) = k < 65536
+abbrev pub SmallHandled : Option ℕ → Type 0
+SmallHandled None = Unit {0}
+SmallHandled (Some k) = k < 65536
 
 -- 16 slots, and the messages in them
 pub record SmallList (l : Messages) : Type 0 where

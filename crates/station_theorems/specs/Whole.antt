@@ -1,5 +1,5 @@
 -- "A record is whole if ...", in plain facts.
-use Rattle.std.specs.Prelude.{◌≡◌, true, ℕ, ◌<◌, ◌≤◌}
+use Rattle.std.specs.Prelude.{◌≡◌, true, ℕ, ◌<◌, ◌≤◌, Some}
 use mathlib.Core.List.{Memᴰ}
 use Rattle.parts.specs.Messages.{all}
 use Rattle.parts.specs.Live.{live_at}
@@ -8,8 +8,7 @@ use Rattle.parts.specs.declared.moves.State.TheVariants.{Excluded}
 use Rattle.parts.specs.declared.list.Message.{Message}
 use Rattle.parts.specs.declared.frame.InformationFrame.{InformationFrame}
 use Rattle.parts.specs.declared.frame.Frame.TheVariants.{Information}
-use Rattle.parts.specs.declared.frame.Dispatch.{Dispatch}
-use Rattle.parts.specs.declared.frame.Dispatch.TheVariants.{Sent}
+use Rattle.parts.specs.Frames.{Dispatch}
 use Rattle.station.specs.declared.station.Station.{Station}
 use Rattle.station_theorems.specs.LiveSet.{LiveSet}
 use Rattle.station_theorems.specs.GoodList.{GoodList}
@@ -28,7 +27,7 @@ pub record InFlight (d : Dispatch) (m : Message) : Type 0 where
   pub frame : InformationFrame
   pub to : ℕ
   pub its_place : frame.place ≡ m.place
-  pub awaited : d ≡ Sent (Information frame) to
+  pub awaited : d ≡ Some (Information frame, to)
 
 -- all of it
 pub record Whole (s : Station) : Type 0 where

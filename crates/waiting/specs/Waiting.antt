@@ -1,6 +1,6 @@
 -- Demand 3: on a fault-free ring an accepted message that stays strictly above every other waiting one goes after at most 2N+1 short
 -- frames and one foreign information frame. What is counted, and what is asked of the message.
-use Rattle.std.specs.Prelude.{◌≡◌, Bool, true, false, ◌&&◌, ℕ, ◌+◌, ◌*◌, ◌-◌, ◌<◌, ◌≤◌, eqb, length}
+use Rattle.std.specs.Prelude.{◌≡◌, Bool, true, false, ◌&&◌, ℕ, ◌+◌, ◌*◌, ◌-◌, ◌<◌, ◌≤◌, eqb, length, Option, None, Some}
 use mathlib.Core.List.{List, [], ◌∷◌, ◌++◌, Memᴰ}
 use Rattle.parts.specs.Choose.{pick}
 use Rattle.parts.specs.Messages.{all, flies, lowest_free}
@@ -33,9 +33,14 @@ pub record Spot : Type 0 where
 abbrev pub spot_for : Bench → ℕ → Spot
 spot_for b from = record { station = from; place = lowest_free (all (station_at b from).sends) }
 
+-- whether the message in flight, if one is, is the one at a place
+abbrev pub is_at : Option ℕ → ℕ → Bool
+is_at None place = false
+is_at (Some p) place = eqb p place
+
 -- the frame on the wire is the message's own: the information frame from its station for its place
 unfoldable pub own : Spot → Wire → Bool
-own x w = eqb w.from x.station && ((flight w.sent).on && eqb (flight w.sent).place x.place)
+own x w = eqb w.from x.station && is_at (flight w.sent) x.place
 
 -- ---- a run from its acceptance on, until it goes
 

@@ -1,25 +1,21 @@
 -- "A record is whole if ...", for all but the record's octets.
-use Rattle.std.specs.Prelude.{Bool, true, false, not, ◌||◌, List, [], ◌∷◌, ◌++◌, ℕ, suc, drop, ltb, leb, eqb}
+use Rattle.std.specs.Prelude.{Bool, true, false, not, ◌||◌, List, [], ◌∷◌, ◌++◌, ℕ, suc, drop, ltb, leb, eqb, Option, None, Some}
 use Rattle.codec.specs.Sizes.{most_information}
 use Rattle.parts.specs.Choose.{pick, all_of, every}
 use Rattle.parts.specs.Moves.{is_waiting, is_excluded}
 use Rattle.parts.specs.Messages.{all, flies, has_place, best}
 use Rattle.parts.specs.Live.{live_at}
-use Rattle.parts.specs.Frames.{fit, flight}
+use Rattle.parts.specs.Frames.{fit, flight, Dispatch}
 use Rattle.station.specs.Stations.{state_of, awaited_of, alone}
 use Rattle.parts.specs.declared.moves.State.{State}
 use Rattle.parts.specs.declared.moves.State.TheVariants.{Offline, Idle, Waiting, Alone, Excluded}
 use Rattle.parts.specs.declared.live.Live.{Live}
 use Rattle.parts.specs.declared.list.Message.{Message}
 use Rattle.parts.specs.declared.list.Messages.{Messages}
-use Rattle.parts.specs.declared.list.Flight.{Flight}
-use Rattle.parts.specs.declared.list.Best.{Best}
 use Rattle.parts.specs.declared.list.Which.TheVariants.{HasPlace}
 use Rattle.parts.specs.declared.frame.InformationFrame.{InformationFrame}
 use Rattle.parts.specs.declared.frame.Frame.{Frame}
 use Rattle.parts.specs.declared.frame.Frame.TheVariants.{Token, Transmit, Information}
-use Rattle.parts.specs.declared.frame.Dispatch.{Dispatch}
-use Rattle.parts.specs.declared.frame.Dispatch.TheVariants.{Nothing, Sent}
 use Rattle.station.specs.declared.station.Turn.{Turn}
 use Rattle.station.specs.declared.station.Station.{Station}
 
@@ -106,23 +102,23 @@ lists_good s = all_of (list_good s.n s.own s.sends ∷ list_good s.n s.own s.rec
 
 -- ---- waiting messages go to live stations, unless Excluded
 
-unfoldable pub waits_well : Live → Flight → Message → Bool
+unfoldable pub waits_well : Live → Option ℕ → Message → Bool
 waits_well l f m = flies f m || live_at l m.other
 
-unfoldable pub waiters_good : State → Live → Flight → List Message → Bool
+unfoldable pub waiters_good : State → Live → Option ℕ → List Message → Bool
 waiters_good st l f ms = pick (is_excluded st) true (every (waits_well l f) ms)
 
 -- ---- a frame is awaited exactly when Waiting, fit to write and to another member; a message is in flight exactly when that frame
 -- is its information frame
 
-unfoldable pub same_message : Best → ℕ → InformationFrame → Bool
-same_message b to i =
+unfoldable pub same_message : Option Message → ℕ → InformationFrame → Bool
+same_message None to i = false
+same_message (Some m) to i =
     all_of
-    (b.some
-    ∷ eqb b.message.other to
-    ∷ eqb b.message.priority i.priority
-    ∷ eqb b.message.channel i.channel
-    ∷ eqb b.message.length i.length
+    (eqb m.other to
+    ∷ eqb m.priority i.priority
+    ∷ eqb m.channel i.channel
+    ∷ eqb m.length i.length
     ∷ [])
 
 unfoldable pub carried : Messages → Frame → ℕ → Bool
@@ -131,8 +127,8 @@ carried l (Transmit t) to = true
 carried l (Information i) to = same_message (best (HasPlace i.place) l) to i
 
 unfoldable pub awaited_good : State → ℕ → ℕ → Messages → Dispatch → Bool
-awaited_good st n own l Nothing = not (is_waiting st)
-awaited_good st n own l (Sent frame to) =
+awaited_good st n own l None = not (is_waiting st)
+awaited_good st n own l (Some (frame, to)) =
     all_of (is_waiting st ∷ fit n frame ∷ ltb to n ∷ not (eqb to own) ∷ carried l frame to ∷ [])
 
 -- ---- the turn: the retry count is at most R

@@ -26,7 +26,7 @@ ghost use Rattle.wholeness.specs.Whole.{
 
 use codec::sizes::INFORMATION;
 use parts::frame::{Dispatch, Frame, InformationFrame};
-use parts::list::{Best, Flight, Message, Messages, Which};
+use parts::list::{Message, Messages, Which};
 use parts::live::Live;
 use parts::moves::State;
 use station::station::{Station, Turn};
@@ -186,7 +186,7 @@ pub fn list_good(n: u8, own: u8, l: Messages) -> bool
     apart(l)
 }
 
-pub fn waits_well(live: Live, f: Flight, m: Message) -> bool
+pub fn waits_well(live: Live, f: Option<u8>, m: Message) -> bool
     ensures { result ≡ waits_well live f m }
 {
     if parts::list::flies(f, m) {
@@ -195,7 +195,7 @@ pub fn waits_well(live: Live, f: Flight, m: Message) -> bool
     parts::live::live_at(live, m.other as usize)
 }
 
-pub fn all_wait_well(live: Live, f: Flight, l: Messages) -> bool
+pub fn all_wait_well(live: Live, f: Option<u8>, l: Messages) -> bool
     ensures { result ≡ every (waits_well live f) (all l) }
 {
     let k = parts::list::count(l);
@@ -210,7 +210,7 @@ pub fn all_wait_well(live: Live, f: Flight, l: Messages) -> bool
     true
 }
 
-pub fn waiters_good(state: State, live: Live, f: Flight, l: Messages) -> bool
+pub fn waiters_good(state: State, live: Live, f: Option<u8>, l: Messages) -> bool
     ensures { result ≡ waiters_good state live f (all l) }
 {
     if parts::moves::is_excluded(state) {
@@ -219,13 +219,12 @@ pub fn waiters_good(state: State, live: Live, f: Flight, l: Messages) -> bool
     all_wait_well(live, f, l)
 }
 
-pub fn same_message(b: Best, to: u8, i: InformationFrame) -> bool
+pub fn same_message(b: Option<Message>, to: u8, i: InformationFrame) -> bool
     ensures { result ≡ same_message b to i }
 {
-    if !b.some {
+    let Some(m) = b else {
         return false;
-    }
-    let m = b.message;
+    };
     if m.other != to {
         return false;
     }
@@ -256,7 +255,7 @@ pub fn carried(l: Messages, f: Frame, to: u8) -> bool
 }
 
 pub fn frame_good(state: State, n: u8, own: u8, l: Messages, f: Frame, to: u8) -> bool
-    ensures { result ≡ awaited_good state n own l (Dispatch.Sent f to) }
+    ensures { result ≡ awaited_good state n own l (Some (f, to)) }
 {
     if !parts::moves::is_waiting(state) {
         return false;
@@ -277,8 +276,8 @@ pub fn awaited_good(state: State, n: u8, own: u8, l: Messages, d: Dispatch) -> b
     ensures { result ≡ awaited_good state n own l d }
 {
     match d {
-        Dispatch::Nothing => !parts::moves::is_waiting(state),
-        Dispatch::Sent { frame, to } => frame_good(state, n, own, l, frame, to),
+        None => !parts::moves::is_waiting(state),
+        Some((frame, to)) => frame_good(state, n, own, l, frame, to),
     }
 }
 

@@ -5,14 +5,13 @@ use Rattle.station_theorems.specs.Small.{SmallFrame}
 use Rattle.wholeness.specs.Whole.{apart}
 use Rattle.station.specs.declared.station.Station.{Station}
 use Rattle.parts.specs.Messages.{all}
-use Rattle.std.specs.Prelude.{true, ℕ, ◌^◌, ◌<◌, ◌≡◌, List, [], length, take, get_or}
+use Rattle.std.specs.Prelude.{true, ℕ, ◌^◌, ◌<◌, ◌≡◌, List, [], length, take, get_or, Some}
 use Rattle.codec.specs.Octets.{Octets}
 use Rattle.codec.specs.Ring.{position}
 use Rattle.packet_codec.specs.Packet.{size, packet_octets, information_part, read_packet, Fit}
 use Rattle.packet_codec.specs.declared.reading.Read.TheVariants.{Good}
 use Rattle.parts.specs.declared.frame.Frame.{Frame}
 use Rattle.parts.specs.declared.frame.Frame.TheVariants.{Token, Transmit, Information}
-use Rattle.parts.specs.declared.frame.Dispatch.TheVariants.{Sent}
 use Rattle.driver_buffers.specs.Packets.{address_of, packet_of, frame_of}
 use Rattle.driver_buffers.specs.Places.{carried_in}
 use Rattle.driver_calls.specs.Calls.{Starting, Hearing, Timing, start_answer, frame_answer, timer_answer}
@@ -52,12 +51,12 @@ pub record Conveyed (ring store : List ℕ) (f : Frame) (to : ℕ) (out' told' :
 -- a call on a record and its store that is done and sends f to a position
 pub data Sends : (rec store : List ℕ) (f : Frame) (to : ℕ) (rec' out' told' : List ℕ) → Type 0 where
   on_start : (rec store out told rec' out' told' : List ℕ) (f : Frame) (to : ℕ) → Starting rec out told 0 rec' out' told'
-      → (start_answer rec).sent ≡ Sent f to → Sends rec store f to rec' out' told'
+      → (start_answer rec).sent ≡ Some (f, to) → Sends rec store f to rec' out' told'
   on_frame : (rec store : List ℕ) (from at : ℕ) (packet out told rec' store' out' told' : List ℕ) (f : Frame) (to : ℕ) → Octets packet
-      → Hearing rec store from at packet out told 0 rec' store' out' told' → (frame_answer rec from at packet).sent ≡ Sent f to
+      → Hearing rec store from at packet out told 0 rec' store' out' told' → (frame_answer rec from at packet).sent ≡ Some (f, to)
       → Sends rec store f to rec' out' told'
   on_timer : (rec store out told rec' out' told' : List ℕ) (f : Frame) (to : ℕ) → Timing rec store out told 0 rec' out' told'
-      → (timer_answer rec).sent ≡ Sent f to → Sends rec store f to rec' out' told'
+      → (timer_answer rec).sent ≡ Some (f, to) → Sends rec store f to rec' out' told'
 
 -- the ring file that a held record was made of
 abbrev pub made_of : {rec : List ℕ} → Held rec → List ℕ

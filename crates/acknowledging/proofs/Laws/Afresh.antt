@@ -3,6 +3,7 @@ use mathlib.Core.Path.{◌≡◌, refl, sym, ap, ◌∙◌}
 use mathlib.Core.Bool.{Bool, true, false}
 use Prim.Native.Nat.{ℕ}
 use lib.Dec.{leb, eqb}
+use Rattle.std.specs.Option.{option_map_or}
 use Rattle.parts.specs.Choose.{pick}
 use Rattle.parts.specs.Messages.{pushed}
 use Rattle.parts.specs.Frames.{number_of, failing_of, flight}
@@ -18,12 +19,10 @@ use Rattle.parts.specs.declared.moves.Event.{Event}
 use Rattle.parts.specs.declared.moves.Event.TheVariants.{Heard, Queue}
 use Rattle.parts.specs.declared.list.Message.{Message}
 use Rattle.parts.specs.declared.request.Request.{Request}
-use Rattle.parts.specs.declared.frame.Whom.{Whom}
-use Rattle.parts.specs.declared.frame.Whom.TheVariants.{Nobody, Member}
+use Rattle.std.specs.Prelude.{Option, None, Some}
 use Rattle.parts.specs.declared.frame.Frame.{Frame}
 use Rattle.parts.specs.declared.frame.Frame.TheVariants.{Token, Transmit, Information}
 use Rattle.station.specs.declared.station.Station.{Station}
-use Rattle.station.specs.declared.station.Payload.TheVariants.{NoPayload, Of}
 use Rattle.station.specs.declared.station.Answer.{Answer}
 use Rattle.bench.proofs.Laws.StandsBy.{either}
 use Rattle.acknowledging.specs.Missing.{fresh}
@@ -55,7 +54,11 @@ fresh_answer a = record { station = fresh a.station; number = a.number; sent = a
 
 fresh_landed : (s : Station) → landed (fresh s) ≡ fresh (landed s)
 unfolding landed
-fresh_landed s = sym (pick_through fresh (flight (awaited_of s)).on (leave s (flight (awaited_of s)).place) s)
+fresh_landed s = go (flight (awaited_of s))
+  where
+    go : (f : Option ℕ) → option_map_or (leave (fresh s)) f (fresh s) ≡ fresh (option_map_or (leave s) f s)
+    go None = refl
+    go (Some p) = refl
 
 pub fresh_acknowledge : (s : Station) (from k : ℕ) → acknowledge (fresh s) from k ≡ fresh (acknowledge s from k)
 unfolding acknowledge acknowledged
@@ -71,19 +74,28 @@ fresh_up_to s p = refl
 
 fresh_up_at : (l : Loss) (p : ℕ) → give_up_at (fresh_loss l) p ≡ fresh_loss (give_up_at l p)
 unfolding give_up_at
-fresh_up_at l p = sym (pick_through fresh_loss (message_at l.station p).some (record { station = leave l.station p; gone = pushed l.gone (message_at l.station p).message }) l)
+fresh_up_at l p = go (message_at l.station p)
+  where
+    up : Loss → Message → Loss
+    up k m = record { station = leave k.station p; gone = pushed k.gone m }
+
+    go : (b : Option Message) → option_map_or (up (fresh_loss l)) b (fresh_loss l) ≡ fresh_loss (option_map_or (up l) b l)
+    go None = refl
+    go (Some m) = refl
 
 fresh_up_flight : (l : Loss) → give_up_flight (fresh_loss l) ≡ fresh_loss (give_up_flight l)
 unfolding give_up_flight
-fresh_up_flight l =
-    both_ways (flight (awaited_of l.station)).on (fresh_up_at l (flight (awaited_of l.station)).place) refl
-    ∙ sym (pick_through fresh_loss (flight (awaited_of l.station)).on (give_up_at l (flight (awaited_of l.station)).place) l)
+fresh_up_flight l = go (flight (awaited_of l.station))
+  where
+    go : (f : Option ℕ) → option_map_or (give_up_at (fresh_loss l)) f (fresh_loss l) ≡ fresh_loss (option_map_or (give_up_at l) f l)
+    go None = refl
+    go (Some p) = fresh_up_at l p
 
-fresh_stopped : (l : Loss) (w : Whom) (st : State) → stopped (fresh_loss l) w st ≡ fresh_struck (stopped l w st)
+fresh_stopped : (l : Loss) (w : Option ℕ) (st : State) → stopped (fresh_loss l) w st ≡ fresh_struck (stopped l w st)
 fresh_stopped l w st =
     ap (λ (m : Loss). let k : Struck = record { station = quiet (told m w).station st; struck = w; gone = (told m w).gone } in k) (fresh_up_flight l)
 
-fresh_other : (s : Station) (p : ℕ) (w : Whom) → strike_other (fresh s) p w ≡ fresh_struck (strike_other s p w)
+fresh_other : (s : Station) (p : ℕ) (w : Option ℕ) → strike_other (fresh s) p w ≡ fresh_struck (strike_other s p w)
 unfolding strike_other
 fresh_other s p w =
     both_ways (alone (strike s p))
@@ -97,10 +109,10 @@ fresh_heard_strike s p =
     both_ways (eqb p s.own) (fresh_stopped (nothing_gone (strike s p)) (newly s.live p) Excluded) (fresh_other s p (newly s.live p))
     ∙ sym (pick_through fresh_struck (eqb p s.own) (stopped (nothing_gone (strike s p)) (newly s.live p) Excluded) (strike_other s p (newly s.live p)))
 
-fresh_failed : (s : Station) (w : Whom) → failed (fresh s) w ≡ fresh_struck (failed s w)
+fresh_failed : (s : Station) (w : Option ℕ) → failed (fresh s) w ≡ fresh_struck (failed s w)
 unfolding failed
-fresh_failed s Nobody = refl
-fresh_failed s (Member p) = fresh_heard_strike s p
+fresh_failed s None = refl
+fresh_failed s (Some p) = fresh_heard_strike s p
 
 -- ---- what is sent
 
@@ -109,8 +121,8 @@ unfolding receive
 fresh_receive s m =
     sym
     (pick_through fresh_stored_lem (leb 16 s.receives.len)
-    (record { station = with_lost s (add_up_to s.counts.lost 1); payload = NoPayload })
-    (record { station = with_receives s (pushed s.receives m); payload = Of m }))
+    (record { station = with_lost s (add_up_to s.counts.lost 1); payload = None })
+    (record { station = with_receives s (pushed s.receives m); payload = Some m }))
 
 fresh_stored : (s : Station) (from : ℕ) (f : Frame) → stored (fresh s) from f ≡ fresh_stored_lem (stored s from f)
 unfolding stored

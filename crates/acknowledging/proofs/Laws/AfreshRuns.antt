@@ -11,8 +11,8 @@ use Rattle.station.specs.Stations.{answered}
 use Rattle.station.specs.Heard.{frame_rule}
 use Rattle.station.specs.Queue.{queue_rule}
 use Rattle.parts.specs.declared.frame.Frame.{Frame}
-use Rattle.parts.specs.declared.frame.Dispatch.{Dispatch}
-use Rattle.parts.specs.declared.frame.Dispatch.TheVariants.{Nothing, Sent}
+use Rattle.parts.specs.Frames.{Dispatch}
+use Rattle.std.specs.Prelude.{None, Some}
 use Rattle.parts.specs.declared.request.Request.{Request}
 use Rattle.station.specs.declared.station.Station.{Station}
 use Rattle.station.specs.declared.station.Answer.{Answer}
@@ -70,8 +70,8 @@ afresh_deliver hears b f to =
 
 afresh_step_on : (b : Bench) (d : Dispatch) → step_on (afresh b) d ≡ afresh (step_on b d)
 unfolding step_on afresh
-afresh_step_on b Nothing = refl
-afresh_step_on b (Sent frame to) = afresh_deliver (others b.wire.from) b frame to
+afresh_step_on b None = refl
+afresh_step_on b (Some (frame, to)) = afresh_deliver (others b.wire.from) b frame to
 
 afresh_wire : (b : Bench) → (afresh b).wire ≡ b.wire
 unfolding afresh

@@ -9,14 +9,13 @@ use lib.ListN.{length, get_or}
 use borrow.Author.Tests.{ltb-true, eq-eqb, eqb-false}
 use Rattle.parts.specs.Choose.{pick}
 use Rattle.parts.specs.Moves.{is_waiting}
-use Rattle.parts.specs.Frames.{number_of, failing_of, next}
+use Rattle.parts.specs.Frames.{number_of, failing_of, next, Dispatch}
 use Rattle.station.specs.Stations.{state_of, answered, moved, unless, quiet}
 use Rattle.station.specs.Heard.{landed, acknowledge, failed, respond, checks, heard, frame_rule}
 use Rattle.parts.specs.declared.moves.State.TheVariants.{Idle}
 use Rattle.parts.specs.declared.moves.Event.TheVariants.{Heard}
 use Rattle.parts.specs.declared.frame.Frame.{Frame}
-use Rattle.parts.specs.declared.frame.Dispatch.{Dispatch}
-use Rattle.parts.specs.declared.frame.Dispatch.TheVariants.{Sent}
+use Rattle.std.specs.Prelude.{Some}
 use Rattle.station.specs.declared.station.Station.{Station}
 use Rattle.parts.proofs.Laws.Ahead.{next_ahead}
 use Rattle.parts.proofs.Laws.Choose.{pick_true, pick_false}
@@ -30,7 +29,7 @@ use Rattle.acknowledging.specs.Before.{acknowledges_before, acknowledged_before,
 -- ---- a station
 
 -- its addressee's frame with the number after its own acknowledges by the rule as it was
-before_by : (s : Station) (from k : ℕ) (g : Frame) → is_waiting (state_of s) ≡ true → s.turn.awaited ≡ Sent g from → next (number_of g) ≡ k
+before_by : (s : Station) (from k : ℕ) (g : Frame) → is_waiting (state_of s) ≡ true → s.turn.awaited ≡ Some (g, from) → next (number_of g) ≡ k
     → acknowledge_before s from k ≡ quiet (landed s) Idle
 unfolding acknowledge_before acknowledged_before acknowledges_before
 before_by s from k g w a e =

@@ -9,14 +9,11 @@ use lib.Seq.{get_or-set_same, get_or-set_other}
 use borrow.Author.Tests.{leb-false, eqb-true, eqb-false}
 use Rattle.parts.specs.Choose.{pick}
 use Rattle.parts.specs.Live.{seats}
-use Rattle.parts.specs.Frames.{number_of, failing_of}
+use Rattle.parts.specs.Frames.{number_of, failing_of, Dispatch}
 use Rattle.station.specs.Stations.{awaited_of}
 use Rattle.station.specs.Heard.{acknowledged, acknowledge}
 use Rattle.station.specs.Queue.{queue_rule}
-use Rattle.parts.specs.declared.frame.Whom.{Whom}
-use Rattle.parts.specs.declared.frame.Whom.TheVariants.{Nobody}
-use Rattle.parts.specs.declared.frame.Dispatch.{Dispatch}
-use Rattle.parts.specs.declared.frame.Dispatch.TheVariants.{Nothing, Sent}
+use Rattle.std.specs.Prelude.{Option, None, Some}
 use Rattle.parts.specs.declared.request.Request.{Request}
 use Rattle.station.specs.declared.station.Turn.{Turn}
 use Rattle.station.specs.declared.station.Station.{Station}
@@ -39,15 +36,15 @@ use Rattle.bench_theorems.proofs.Laws.Started.{starts_idle, begun}
 use Rattle.bench_theorems.proofs.Laws.Ringing.{quiet_start}
 use Rattle.bench_theorems.proofs.Theorems.ReachedQuiet.{quiet_event}
 
-abbrev pub failing_in : Dispatch → Whom
-failing_in Nothing = Nobody
-failing_in (Sent frame to) = failing_of frame
+abbrev pub failing_in : Dispatch → Option ℕ
+failing_in None = None
+failing_in (Some (frame, to)) = failing_of frame
 
 abbrev calm : Station → Type 0
-calm s = failing_in (awaited_of s) ≡ Nobody
+calm s = failing_in (awaited_of s) ≡ None
 
 abbrev pub Calm : Bench → Type 0
-Calm b = (p : ℕ) → p < b.n → failing_in (awaited_of (station_at b p)) ≡ Nobody
+Calm b = (p : ℕ) → p < b.n → failing_in (awaited_of (station_at b p)) ≡ None
 
 -- ---- a step
 

@@ -8,7 +8,7 @@ use lib.ListN.{length}
 use borrow.Author.Tests.{ltb-true, ltb-false}
 use Rattle.parts.specs.Frames.{number_of}
 use Rattle.station.specs.Heard.{acknowledge}
-use Rattle.parts.specs.declared.frame.Dispatch.TheVariants.{Nothing}
+use Rattle.std.specs.Prelude.{None}
 use Rattle.station.specs.declared.station.Station.{Station}
 use Rattle.station.specs.declared.station.Answer.{Answer}
 use Rattle.bench.specs.Ring.{station_at}
@@ -54,7 +54,7 @@ module _ {limit : ℕ} (b : Bench) (u : Undisturbed limit b) where
     pub long : length c.stations ≡ length b.stations
     pub sender_same : station_at c from ≡ station_at b from
     pub each : (p : ℕ) → p < length b.stations → Rests p (station_at c p)
-    pub empty : c.wire.sent ≡ Nothing
+    pub empty : c.wire.sent ≡ None
 
   pub in_table : (p : ℕ) → p < b.n → p < length b.stations
   in_table p m = omega (arith, q.table, q.picture.most_members)

@@ -12,9 +12,8 @@ use Rattle.station.specs.Stations.{state_of, awaited_of, answered}
 use Rattle.station.specs.Heard.{acknowledge, frame_rule}
 use Rattle.station.specs.Timer.{once_more}
 use Rattle.parts.specs.declared.moves.State.TheVariants.{Idle, Waiting}
-use Rattle.parts.specs.declared.frame.Whom.TheVariants.{Nobody}
+use Rattle.std.specs.Prelude.{None, Some}
 use Rattle.parts.specs.declared.frame.Frame.{Frame}
-use Rattle.parts.specs.declared.frame.Dispatch.TheVariants.{Sent}
 use Rattle.station.specs.declared.station.Station.{Station}
 use Rattle.station.specs.declared.station.Answer.{Answer}
 use Rattle.parts.proofs.Laws.Ahead.{before_not_ahead}
@@ -56,9 +55,9 @@ module _ {limit : ℕ} (b : Bench) (u : Undisturbed limit b) where
     was : fresh s ≡ station_at b p
     is_last : p ≡ q.picture.before
     frame : Frame
-    awaits : awaited_of s ≡ Sent frame from
+    awaits : awaited_of s ≡ Some (frame, from)
     follows : next (number_of frame) ≡ number
-    quiet : failing_of frame ≡ Nobody
+    quiet : failing_of frame ≡ None
 
   waits_for : (p : ℕ) → p < b.n → (p ≡ from → ⊥) → (s : Station) → Rests b u p s → state_of s ≡ Waiting → Waits p s
   waits_for p m o s (already i x y e) w = absurd (waiting_idle s w (rests_idle p m o s e))

@@ -7,11 +7,10 @@ use lib.Dec.{ltb, eqb}
 use lib.ListN.{length}
 use borrow.Author.Tests.{ltb-true, ltb-false, eqb-true, eqb-false}
 use Rattle.parts.specs.Choose.{pick}
-use Rattle.parts.specs.Frames.{number_of}
+use Rattle.parts.specs.Frames.{number_of, Dispatch}
 use Rattle.station.specs.Heard.{acknowledge, frame_rule}
 use Rattle.parts.specs.declared.frame.Frame.{Frame}
-use Rattle.parts.specs.declared.frame.Dispatch.{Dispatch}
-use Rattle.parts.specs.declared.frame.Dispatch.TheVariants.{Sent}
+use Rattle.std.specs.Prelude.{Some}
 use Rattle.station.specs.declared.station.Station.{Station}
 use Rattle.station.specs.declared.station.Answer.{Answer}
 use Rattle.parts.proofs.Laws.Ahead.{after_next_ahead}
@@ -195,7 +194,7 @@ module _ {limit : ℕ} (b : Bench) (q : Quiet limit b) (misses : ℕ → Bool) w
             ∙ answers_next p i x
             ∙ sym (handed_hears b.n (others q.to) frame' q.to to' p (station_at whole p) i (others_hear q.to p x))
 
-    missed_wire : missed.wire ≡ record { from = q.to; sent = Sent frame' to' }
+    missed_wire : missed.wire ≡ record { from = q.to; sent = Some (frame', to') }
     unfolding deliver_to
     missed_wire =
         ap (λ (d : Dispatch). let w : Wire = record { from = q.to; sent = d } in w)
@@ -205,7 +204,7 @@ module _ {limit : ℕ} (b : Bench) (q : Quiet limit b) (misses : ℕ → Bool) w
     pub next_at_once : missed.wire ≡ (step b).wire
     next_at_once = missed_wire ∙ sym (step_wire b q)
 
-    delivers_next : (c : Bench) → c.wire ≡ record { from = q.to; sent = Sent frame' to' } → step c ≡ deliver_to (others q.to) c frame' to'
+    delivers_next : (c : Bench) → c.wire ≡ record { from = q.to; sent = Some (frame', to') } → step c ≡ deliver_to (others q.to) c frame' to'
     unfolding step step_on
     delivers_next c e = (λ i. step_on c (e i).sent) ∙ (λ i. deliver_to (others (e i).from) c frame' to')
 

@@ -9,9 +9,8 @@ use Rattle.station.specs.Strike.{Struck}
 use Rattle.station.specs.Heard.{acknowledge, failed, nothing_more, silent, respond, heard, frame_rule}
 use Rattle.station.specs.Timer.{once_more, timer_rule}
 use Rattle.parts.specs.declared.moves.State.TheVariants.{Waiting}
-use Rattle.parts.specs.declared.frame.Whom.TheVariants.{Nobody}
+use Rattle.std.specs.Prelude.{None, Some}
 use Rattle.parts.specs.declared.frame.Frame.{Frame}
-use Rattle.parts.specs.declared.frame.Dispatch.TheVariants.{Nothing, Sent}
 use Rattle.station.specs.declared.station.Station.{Station}
 use Rattle.station.specs.declared.station.Answer.{Answer}
 use Rattle.parts.proofs.Laws.Choose.{pick_true}
@@ -28,14 +27,14 @@ use Rattle.acknowledging.specs.Heals.{Spares}
 -- a station handed back as it was, nothing sent, nobody struck and nothing given up
 pub record Left (s : Station) (a : Answer) : Type 0 where
   pub same : a.station ≡ s
-  pub silent : a.sent ≡ Nothing
+  pub silent : a.sent ≡ None
   pub spares : Spares a
 
 answered_left : (s : Station) (k : ℕ) → Left s (answered s k)
 answered_left s k = record { same = refl; silent = refl; spares = record { nobody_struck = refl; none_given_up = refl } }
 
 -- a frame that does not acknowledge it, names nobody failing, and stops
-pub left_by : (s : Station) (f : Frame) (from to : ℕ) → acknowledge s from (number_of f) ≡ s → failing_of f ≡ Nobody → nothing_more s to (number_of f) ≡ true
+pub left_by : (s : Station) (f : Frame) (from to : ℕ) → acknowledge s from (number_of f) ≡ s → failing_of f ≡ None → nothing_more s to (number_of f) ≡ true
     → Left s (frame_rule s f from to)
 unfolding frame_rule moved unless heard respond
 left_by s f from to e w stops =
@@ -53,9 +52,9 @@ left_by s f from to e w stops =
 
 -- the bench once the station at p has sent its frame again
 abbrev pub sent_again : Bench → ℕ → Frame → ℕ → Bench
-sent_again c p g to = record { n = c.n; stations = set c.stations p (once_more (station_at c p)); wire = record { from = p; sent = Sent g to } }
+sent_again c p g to = record { n = c.n; stations = set c.stations p (once_more (station_at c p)); wire = record { from = p; sent = Some (g, to) } }
 
-module _ (c : Bench) (p : ℕ) (g : Frame) (to : ℕ) (w : state_of (station_at c p) ≡ Waiting) (a : awaited_of (station_at c p) ≡ Sent g to)
+module _ (c : Bench) (p : ℕ) (g : Frame) (to : ℕ) (w : state_of (station_at c p) ≡ Waiting) (a : awaited_of (station_at c p) ≡ Some (g, to))
     (below : (station_at c p).turn.retries < (station_at c p).limit) where
   pub timer_is : timer_at c p ≡ sent_again c p g to
   unfolding timer_at on_wire

@@ -6,7 +6,7 @@ use native.Mathlib.Omega.{arith}
 use lib.ListN.{length}
 use Rattle.codec.specs.Octets.{laid}
 use Rattle.codec.proofs.Laws.Octets.{laid_none, length_laid}
-use Rattle.parts.specs.declared.frame.Dispatch.TheVariants.{Nothing}
+use Rattle.std.specs.Prelude.{None}
 use Rattle.bench.specs.Delivery.{step, steps}
 use Rattle.bench.specs.Rows.{rows_on}
 use Rattle.bench.specs.Text.{rows_text}
@@ -77,10 +77,10 @@ module _ (self : Bench) (l : List ℕ) (at most : ℕ) (b : Bench) (out : List �
       let j : full ≡ k = omega (arith, w.within) in
       going_whole full e (ap (λ (i : ℕ). steps i self) j) (ap (λ (i : ℕ). steps_text i self) j)
 
-  pub going_silent : (full : ℕ) → most ≡ full → b.wire.sent ≡ Nothing → (ran_of b used most ≡ ran self full at) × (out ≡ laid l at (steps_text full self))
+  pub going_silent : (full : ℕ) → most ≡ full → b.wire.sent ≡ None → (ran_of b used most ≡ ran self full at) × (out ≡ laid l at (steps_text full self))
   going_silent full e z =
       let j : full ≡ k + (full - k) = omega (arith, w.within) in
-      let q : (steps k self).wire.sent ≡ Nothing = ap (λ (x : Bench). x.wire.sent) (sym w.stepped) ∙ z in
+      let q : (steps k self).wire.sent ≡ None = ap (λ (x : Bench). x.wire.sent) (sym w.stepped) ∙ z in
       going_whole full e
       (ap (λ (i : ℕ). steps i self) j ∙ steps_rest k (full - k) self q)
       (ap (λ (i : ℕ). steps_text i self) j ∙ text_rest k (full - k) self q)

@@ -14,8 +14,8 @@ use Rattle.parts.specs.Live.{seats}
 use Rattle.station.specs.Stations.{moved}
 use Rattle.station.specs.Heard.{frame_rule}
 use Rattle.parts.specs.declared.frame.Frame.{Frame}
-use Rattle.parts.specs.declared.frame.Dispatch.{Dispatch}
-use Rattle.parts.specs.declared.frame.Dispatch.TheVariants.{Nothing}
+use Rattle.parts.specs.Frames.{Dispatch}
+use Rattle.std.specs.Prelude.{None}
 use Rattle.station.specs.declared.station.Station.{Station}
 use Rattle.station.specs.declared.station.Answer.{Answer}
 use Rattle.bench.specs.Bystander.{Untouched}
@@ -26,13 +26,13 @@ use Rattle.bench.proofs.Laws.StandsBy.{either}
 use Rattle.bench.proofs.Laws.Delivered.{delivered_length, delivered_at, handed_outside}
 
 -- what lies past the table answers nothing
-nobody_silent : (f : Frame) (from to : ℕ) → (frame_rule nobody f from to).sent ≡ Nothing
+nobody_silent : (f : Frame) (from to : ℕ) → (frame_rule nobody f from to).sent ≡ None
 unfolding frame_rule moved nobody pick
 nobody_silent f from to = refl
 
-nobody_answers : (n : ℕ) (hears : ℕ → Bool) (f : Frame) (from to p : ℕ) → (handed n hears f from to p nobody).sent ≡ Nothing
+nobody_answers : (n : ℕ) (hears : ℕ → Bool) (f : Frame) (from to p : ℕ) → (handed n hears f from to p nobody).sent ≡ None
 unfolding handed
-nobody_answers n hears f from to p = either (λ (a : Answer). a.sent ≡ Nothing) _ _ _ (nobody_silent f from to) refl
+nobody_answers n hears f from to p = either (λ (a : Answer). a.sent ≡ None) _ _ _ (nobody_silent f from to) refl
 
 pub seats_members : (n p : ℕ) → p < seats n → p < n
 seats_members n p h = go (ltb n 64) refl
@@ -62,28 +62,28 @@ module _ (n : ℕ) (hears : ℕ → Bool) (f : Frame) (from to : ℕ) (old : Lis
     pub long : length cur ≡ length old
     pub done : (q : ℕ) → q < p → get_or cur q nobody ≡ (handed n hears f from to q (get_or old q nobody)).station
     pub rest : (q : ℕ) → p ≤ q → get_or cur q nobody ≡ get_or old q nobody
-    pub answer : reply ≡ pick (ltb to p) (handed n hears f from to to (get_or old to nobody)).sent Nothing
+    pub answer : reply ≡ pick (ltb to p) (handed n hears f from to to (get_or old to nobody)).sent None
 
-  pub passed_none : Passed old Nothing 0
+  pub passed_none : Passed old None 0
   passed_none = record { long = refl; done = λ q h. absurd (omega arith); rest = λ q h. refl; answer = sym (pick_false _ _ (le-ltb to 0 (omega arith))) }
 
   module _ (cur : List Station) (reply : Dispatch) (p : ℕ) (w : Passed cur reply p) where
     -- the reply once the position p is passed, which sends `sent`
     reply_more : (sent : Dispatch) → sent ≡ (handed n hears f from to p (get_or old p nobody)).sent
-        → pick (eqb p to) sent reply ≡ pick (ltb to (suc p)) (handed n hears f from to to (get_or old to nobody)).sent Nothing
+        → pick (eqb p to) sent reply ≡ pick (ltb to (suc p)) (handed n hears f from to to (get_or old to nobody)).sent None
     reply_more sent e = go (eqb p to) refl
       where
         past : (p ≡ to → ⊥) → (b : Bool) → ltb to p ≡ b → ltb to (suc p) ≡ b
         past o true t = let h : to < p = ltb-true to p t in lt-ltb to (suc p) (omega arith)
         past o false t = let h : p ≤ to = ltb-false to p t in le-ltb to (suc p) (omega (arith, o))
 
-        go : (b : Bool) → eqb p to ≡ b → pick (eqb p to) sent reply ≡ pick (ltb to (suc p)) (handed n hears f from to to (get_or old to nobody)).sent Nothing
+        go : (b : Bool) → eqb p to ≡ b → pick (eqb p to) sent reply ≡ pick (ltb to (suc p)) (handed n hears f from to to (get_or old to nobody)).sent None
         go true t =
             let q : p ≡ to = eqb-true p to t in
             pick_true _ _ t ∙ e ∙ ap (λ (i : ℕ). (handed n hears f from to i (get_or old i nobody)).sent) q ∙ sym (pick_true _ _ (lt-ltb to (suc p) (omega arith)))
         go false t =
             pick_false _ _ t ∙ w.answer
-            ∙ ap (λ (b : Bool). pick b (handed n hears f from to to (get_or old to nobody)).sent Nothing) (sym (past (eqb-false p to t) (ltb to p) refl))
+            ∙ ap (λ (b : Bool). pick b (handed n hears f from to to (get_or old to nobody)).sent None) (sym (past (eqb-false p to t) (ltb to p) refl))
 
     -- a station that is handed back as it was, and sends nothing
     pub passed_by : Untouched (get_or cur p nobody) (handed n hears f from to p (get_or cur p nobody)) → Passed cur reply (suc p)
@@ -92,7 +92,7 @@ module _ (n : ℕ) (hears : ℕ → Bool) (f : Frame) (from to : ℕ) (old : Lis
           long = w.long;
           done = λ q h. go q h (eqb q p) refl;
           rest = λ q h. w.rest q (omega arith);
-          answer = sym (kept (eqb p to) refl) ∙ reply_more Nothing (sym u.silent ∙ ap (λ (s : Station). (handed n hears f from to p s).sent) (w.rest p (omega arith)));
+          answer = sym (kept (eqb p to) refl) ∙ reply_more None (sym u.silent ∙ ap (λ (s : Station). (handed n hears f from to p s).sent) (w.rest p (omega arith)));
         }
       where
         go : (q : ℕ) → q < suc p → (b : Bool) → eqb q p ≡ b → get_or cur q nobody ≡ (handed n hears f from to q (get_or old q nobody)).station
@@ -103,7 +103,7 @@ module _ (n : ℕ) (hears : ℕ → Bool) (f : Frame) (from to : ℕ) (old : Lis
             ∙ ap (λ (i : ℕ). (handed n hears f from to i (get_or old i nobody)).station) (sym e)
         go q h false t = w.done q (let o : q ≡ p → ⊥ = eqb-false q p t in omega (arith, o))
 
-        kept : (b : Bool) → eqb p to ≡ b → pick (eqb p to) Nothing reply ≡ reply
+        kept : (b : Bool) → eqb p to ≡ b → pick (eqb p to) None reply ≡ reply
         kept true t =
             pick_true _ _ t
             ∙ sym (w.answer ∙ pick_false _ _ (le-ltb to p (let e : p ≡ to = eqb-true p to t in omega arith)))
@@ -149,7 +149,7 @@ module _ (n : ℕ) (hears : ℕ → Bool) (f : Frame) (from to : ℕ) (old : Lis
     pub passed_reply : reply ≡ (handed n hears f from to to (get_or old to nobody)).sent
     passed_reply = w.answer ∙ go (ltb to p) refl
       where
-        none : (b : Bool) → ltb to 64 ≡ b → p ≤ to → (handed n hears f from to to (get_or old to nobody)).sent ≡ Nothing
+        none : (b : Bool) → ltb to 64 ≡ b → p ≤ to → (handed n hears f from to to (get_or old to nobody)).sent ≡ None
         none true t h =
             ap (λ (a : Answer). a.sent)
             (handed_outside n hears f from to to (get_or old to nobody) (past_seats n to (omega arith) (ltb-true to 64 t)))
@@ -158,6 +158,6 @@ module _ (n : ℕ) (hears : ℕ → Bool) (f : Frame) (from to : ℕ) (old : Lis
             ap (λ (s : Station). (handed n hears f from to to s).sent) (get_or-eq_default old nobody {n = to} (omega arith))
             ∙ nobody_answers n hears f from to to
 
-        go : (b : Bool) → ltb to p ≡ b → pick (ltb to p) (handed n hears f from to to (get_or old to nobody)).sent Nothing ≡ (handed n hears f from to to (get_or old to nobody)).sent
+        go : (b : Bool) → ltb to p ≡ b → pick (ltb to p) (handed n hears f from to to (get_or old to nobody)).sent None ≡ (handed n hears f from to to (get_or old to nobody)).sent
         go true t = pick_true _ _ t
         go false t = pick_false _ _ t ∙ sym (none (ltb to 64) refl (ltb-false to p t))

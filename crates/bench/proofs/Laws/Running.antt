@@ -11,8 +11,8 @@ use borrow.Author.Tests.{lt-ltb, le-ltb, ltb-false}
 use Rattle.codec.specs.Octets.{laid}
 use Rattle.codec.proofs.Laws.Octets.{laid_none}
 use Rattle.parts.specs.declared.frame.Frame.{Frame}
-use Rattle.parts.specs.declared.frame.Dispatch.{Dispatch}
-use Rattle.parts.specs.declared.frame.Dispatch.TheVariants.{Nothing, Sent}
+use Rattle.parts.specs.Frames.{Dispatch}
+use Rattle.std.specs.Prelude.{None, Some}
 use Rattle.station.specs.declared.station.Station.{Station}
 use Rattle.parts.proofs.Laws.Choose.{pick_true, pick_false}
 use Rattle.bench.specs.Ring.{station_at}
@@ -29,7 +29,7 @@ use Rattle.bench.proofs.Laws.Laying.{laid_both, row_short}
 use Rattle.bench.proofs.Laws.Steps.{steps_more, steps_text_more}
 
 -- a delivered frame is a step
-pub step_sent : (b : Bench) (f : Frame) (to : ℕ) (cur : List Station) (reply : Dispatch) → b.wire.sent ≡ Sent f to
+pub step_sent : (b : Bench) (f : Frame) (to : ℕ) (cur : List Station) (reply : Dispatch) → b.wire.sent ≡ Some (f, to)
     → cur ≡ delivered b.n (others b.wire.from) f b.wire.from to 0 b.stations
     → reply ≡ (handed b.n (others b.wire.from) f b.wire.from to to (station_at b to)).sent
     → bench_of b.n cur (record { from = to; sent = reply }) ≡ step b
@@ -47,8 +47,8 @@ unfolding rows_text row_on
 wire_short w = go w.sent
   where
     go : (d : Dispatch) → length (rows_text (row_on w.from d)) ≤ 32
-    go Nothing = omega arith
-    go (Sent f to) = omega (arith, row_short (row_of w.from f to), length-append (row_text (row_of w.from f to)) [])
+    go None = omega arith
+    go (Some (f, to)) = omega (arith, row_short (row_of w.from f to), length-append (row_text (row_of w.from f to)) [])
 
 pub steps_short : (k : ℕ) (b : Bench) → length (steps_text k b) ≤ 32 * k
 steps_short zero b = rw (text_none b) (omega arith)
@@ -102,13 +102,13 @@ module _ (self : Bench) (k : ℕ) where
 -- ---- the line of the frame on the wire
 
 module _ (w : Wire) (l : List ℕ) (at : ℕ) where
-  pub wire_none : w.sent ≡ Nothing → (l ≡ laid l at (rows_text (rows_on w))) × (at ≡ at + length (rows_text (rows_on w)))
+  pub wire_none : w.sent ≡ None → (l ≡ laid l at (rows_text (rows_on w))) × (at ≡ at + length (rows_text (rows_on w)))
   unfolding rows_text row_on
   wire_none e =
       let z : rows_text (rows_on w) ≡ [] = ap (λ (d : Dispatch). rows_text (row_on w.from d)) e in
       rw z (sym (laid_none l at), omega arith)
 
-  pub wire_some : (f : Frame) (to r : ℕ) (row : Row) (l₁ : List ℕ) → w.sent ≡ Sent f to → row ≡ row_of w.from f to → l₁ ≡ laid l at (row_text row) → r ≡ at + length (row_text row)
+  pub wire_some : (f : Frame) (to r : ℕ) (row : Row) (l₁ : List ℕ) → w.sent ≡ Some (f, to) → row ≡ row_of w.from f to → l₁ ≡ laid l at (row_text row) → r ≡ at + length (row_text row)
       → (l₁ ≡ laid l at (rows_text (rows_on w))) × (r ≡ at + length (rows_text (rows_on w)))
   unfolding rows_text row_on
   wire_some f to r row l₁ e i p q =

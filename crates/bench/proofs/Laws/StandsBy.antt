@@ -11,8 +11,7 @@ use Rattle.station.specs.Strike.{Struck}
 use Rattle.station.specs.Stations.{state_of, answered, moved, unless}
 use Rattle.station.specs.Heard.{acknowledged, acknowledge, failed, nothing_more, silent, respond, heard, checks, frame_rule}
 use Rattle.parts.specs.declared.moves.Event.{Event}
-use Rattle.parts.specs.declared.frame.Whom.{Whom}
-use Rattle.parts.specs.declared.frame.Whom.TheVariants.{Nobody, Member}
+use Rattle.std.specs.Prelude.{Option, None, Some}
 use Rattle.parts.specs.declared.frame.Frame.{Frame}
 use Rattle.station.specs.declared.station.Station.{Station}
 use Rattle.station.specs.declared.station.Answer.{Answer}
@@ -46,12 +45,12 @@ unacknowledged s from k w = pick_false _ _ (pick_false _ _ w)
 
 -- with no failing station nobody is struck
 abbrev pub unharmed : Station → Struck
-unharmed s = record { station = s; struck = Nobody; gone = none }
+unharmed s = record { station = s; struck = None; gone = none }
 
-pub failed_nobody : (s : Station) (w : Whom) → is_nobody w ≡ true → failed s w ≡ unharmed s
+pub failed_nobody : (s : Station) (w : Option ℕ) → is_nobody w ≡ true → failed s w ≡ unharmed s
 unfolding failed
-failed_nobody s Nobody e = refl
-failed_nobody s (Member p) e = absurd (false≢true e)
+failed_nobody s None e = refl
+failed_nobody s (Some p) e = absurd (false≢true e)
 
 -- a frame addressed elsewhere stops
 pub elsewhere : (s : Station) (to k : ℕ) → not (eqb to s.own) ≡ true → nothing_more s to k ≡ true

@@ -6,7 +6,7 @@ use lib.ListN.{set, replicate}
 use Rattle.parts.specs.Live.{seats}
 use Rattle.station.specs.Stations.{made}
 use Rattle.station.specs.Start.{start_rule}
-use Rattle.parts.specs.declared.frame.Dispatch.TheVariants.{Nothing}
+use Rattle.std.specs.Prelude.{None}
 use Rattle.station.specs.declared.station.Station.{Station}
 use Rattle.station.specs.declared.station.Answer.{Answer}
 use Rattle.bench.specs.Ring.{nobody, on_wire, start_at, start_down, ring_with}
@@ -17,7 +17,7 @@ abbrev pub bench_of : ℕ → List Station → Wire → Bench
 bench_of n stations wire = record { n = n; stations = stations; wire = wire }
 
 pub start_begins : (n limit p : ℕ) (s : Station) → p ≡ seats n → s ≡ made 0 0 0
-    → start_down limit p (bench_of n (replicate 64 s) (record { from = 0; sent = Nothing })) ≡ ring_with n limit
+    → start_down limit p (bench_of n (replicate 64 s) (record { from = 0; sent = None })) ≡ ring_with n limit
 unfolding ring_with nobody
 start_begins n limit p s e f = rw (e, f)
 

@@ -10,8 +10,8 @@ use borrow.Author.Tests.{lt-ltb, le-ltb, ltb-true, ltb-false}
 use Rattle.codec.specs.Octets.{laid}
 use Rattle.parts.specs.Live.{seats}
 use Rattle.parts.specs.declared.frame.Frame.{Frame}
-use Rattle.parts.specs.declared.frame.Dispatch.{Dispatch}
-use Rattle.parts.specs.declared.frame.Dispatch.TheVariants.{Nothing, Sent}
+use Rattle.parts.specs.Frames.{Dispatch}
+use Rattle.std.specs.Prelude.{None, Some}
 use Rattle.parts.proofs.Laws.Choose.{pick_true, pick_false, pick_and}
 use Rattle.station.specs.declared.station.Station.{Station}
 use Rattle.bench.specs.Ring.{nobody}
@@ -46,11 +46,11 @@ going_of n wire most k used = record { n = n; wire = wire; most = most; k = k; u
 -- ---- what is handed round
 
 module _ (g : Going) (m : ℕ) (size : m ≡ seats g.n) where
-  pub handing_sent : (f : Frame) (to : ℕ) (quiet : Bool) → g.wire.sent ≡ Sent f to → quiet ≡ is_quiet f
+  pub handing_sent : (f : Frame) (to : ℕ) (quiet : Bool) → g.wire.sent ≡ Some (f, to) → quiet ≡ is_quiet f
       → handing_with g.n m f quiet g.wire.from to ≡ handing_of g
   handing_sent f to quiet e q = rw (size, q) (ap (handing_by g) (sym e))
 
-  pub handing_none : g.wire.sent ≡ Nothing → handing_with g.n m no_frame true 0 0 ≡ handing_of g
+  pub handing_none : g.wire.sent ≡ None → handing_with g.n m no_frame true 0 0 ≡ handing_of g
   handing_none e = rw size (ap (handing_by g) (sym e))
 
 -- as `hand` asks for it
@@ -58,8 +58,8 @@ pub handing_asks : (g : Going) (h : Handing) → h ≡ handing_of g → (h.m ≡
 handing_asks g h e = rw e (go g.wire.sent)
   where
     go : (d : Dispatch) → ((handing_by g d).m ≡ seats (handing_by g d).n) × ((handing_by g d).quiet ≡ is_quiet (handing_by g d).frame)
-    go Nothing = (refl, refl)
-    go (Sent f to) = (refl, refl)
+    go None = (refl, refl)
+    go (Some (f, to)) = (refl, refl)
 
 -- ---- whether there is a next step
 
@@ -67,21 +67,21 @@ module _ (g : Going) where
   pub over_on : g.most ≤ g.k → false ≡ goes_on g
   over_on h = sym (pick_false _ _ (le-ltb g.k g.most h))
 
-  pub sent_on : (f : Frame) (to : ℕ) → g.k < g.most → g.wire.sent ≡ Sent f to → true ≡ goes_on g
+  pub sent_on : (f : Frame) (to : ℕ) → g.k < g.most → g.wire.sent ≡ Some (f, to) → true ≡ goes_on g
   sent_on f to h e = sym (pick_true _ _ (lt-ltb g.k g.most h) ∙ ap is_sent e)
 
-  pub none_on : g.k < g.most → g.wire.sent ≡ Nothing → false ≡ goes_on g
+  pub none_on : g.k < g.most → g.wire.sent ≡ None → false ≡ goes_on g
   none_on h e = sym (pick_true _ _ (lt-ltb g.k g.most h) ∙ ap is_sent e)
 
   pub on_less : goes_on g ≡ true → g.k < g.most
   on_less e = ltb-true g.k g.most (pick_and e).0
 
-  pub on_sent : goes_on g ≡ true → (f : Frame) × (to : ℕ) × (g.wire.sent ≡ Sent f to)
+  pub on_sent : goes_on g ≡ true → (f : Frame) × (to : ℕ) × (g.wire.sent ≡ Some (f, to))
   on_sent e = go g.wire.sent (pick_and e).1
     where
-      go : (d : Dispatch) → is_sent d ≡ true → (f : Frame) × (to : ℕ) × (d ≡ Sent f to)
-      go Nothing x = absurd (false≢true x)
-      go (Sent f to) x = (f, to, refl)
+      go : (d : Dispatch) → is_sent d ≡ true → (f : Frame) × (to : ℕ) × (d ≡ Some (f, to))
+      go None x = absurd (false≢true x)
+      go (Some (f, to)) x = (f, to, refl)
 
 -- ---- one step
 
@@ -100,8 +100,8 @@ one_step g h ss ss₁ reply r out out₁ on e er es ep eo =
     let b : Bench = bench_in g ss in
     let f : Frame = (on_sent g on).0 in
     let to : ℕ = (on_sent g on).1 in
-    let sent : g.wire.sent ≡ Sent f to = (on_sent g on).2 in
-    let eh : h ≡ handing_by g (Sent f to) = e ∙ ap (handing_by g) sent in
+    let sent : g.wire.sent ≡ Some (f, to) = (on_sent g on).2 in
+    let eh : h ≡ handing_by g (Some (f, to)) = e ∙ ap (handing_by g) sent in
     let et : h.to ≡ to = ap (λ (x : Handing). x.to) eh in
     let done : bench_of g.n ss₁ (wire_of to reply) ≡ steps 1 b =
     step_sent b f to ss₁ reply sent (es ∙ ap (λ (x : Handing). delivered x.n (hears x) x.frame x.from x.to 0 ss) eh)
@@ -172,9 +172,9 @@ module _ (g : Going) (ss₀ : List Station) (out₀ : List ℕ) where
         fields : (ran_of (bench_in r ss) r.used g.most ≡ ran (bench_in g ss₀) g.most g.used) × (out ≡ laid out₀ g.used (steps_text g.most (bench_in g ss₀))) → AllDone g ss₀ out₀ r.wire r.used ss out
         fields p = (ap (λ (x : Ran). x.bench.wire) p.0, (ap (λ (x : Ran). x.used) p.0, (ap (λ (x : Ran). x.bench.stations) p.0, p.1)))
 
-        silent : (d : Dispatch) → is_sent d ≡ false → d ≡ Nothing
-        silent Nothing e = refl
-        silent (Sent f to) e = absurd (false≢true (sym e))
+        silent : (d : Dispatch) → is_sent d ≡ false → d ≡ None
+        silent None e = refl
+        silent (Some (f, to)) e = absurd (false≢true (sym e))
 
         go : (y : Bool) → ltb r.k r.most ≡ y → AllDone g ss₀ out₀ r.wire r.used ss out
         go true e = fields (going_silent _ _ _ _ _ _ _ _ w.1 _ refl (silent r.wire.sent (sym (pick_true _ _ e) ∙ off)))

@@ -3,8 +3,8 @@ use mathlib.Core.Path.{◌≡◌, refl, sym, ap, ◌∙◌}
 use mathlib.Core.List.{List, [], ◌∷◌, ◌++◌, append_assoc, append-nil}
 use Prim.Native.Nat.{ℕ, zero, suc, ◌+◌}
 use native.Mathlib.Nat.{zero-add, suc-add}
-use Rattle.parts.specs.declared.frame.Dispatch.{Dispatch}
-use Rattle.parts.specs.declared.frame.Dispatch.TheVariants.{Nothing, Sent}
+use Rattle.parts.specs.Frames.{Dispatch}
+use Rattle.std.specs.Prelude.{None, Some}
 use Rattle.bench.specs.Delivery.{deliver_to, step_on, step, steps}
 use Rattle.bench.specs.Rows.{row_on, rows_on}
 use Rattle.bench.specs.Runs.{after_event, composed, frames, stepping}
@@ -56,8 +56,8 @@ unfolding step step_on deliver_to
 step_size b = go b.wire.sent
   where
     go : (d : Dispatch) → (step_on b d).n ≡ b.n
-    go Nothing = refl
-    go (Sent frame to) = refl
+    go None = refl
+    go (Some (frame, to)) = refl
 
 pub steps_size : (k : ℕ) (b : Bench) → (steps k b).n ≡ b.n
 unfolding steps
@@ -81,33 +81,33 @@ frames_add (suc k) j b =
 
 -- ---- with no frame on the wire nothing happens
 
-pub step_silent : (b : Bench) (d : Dispatch) → b.wire.sent ≡ d → d ≡ Nothing → step b ≡ b
+pub step_silent : (b : Bench) (d : Dispatch) → b.wire.sent ≡ d → d ≡ None → step b ≡ b
 unfolding step step_on
 step_silent b d e z = ap (step_on b) (e ∙ z)
 
-pub steps_silent : (k : ℕ) (b : Bench) → b.wire.sent ≡ Nothing → steps k b ≡ b
+pub steps_silent : (k : ℕ) (b : Bench) → b.wire.sent ≡ None → steps k b ≡ b
 unfolding steps
 steps_silent zero b z = refl
-steps_silent (suc k) b z = ap (steps k) (step_silent b Nothing z refl) ∙ steps_silent k b z
+steps_silent (suc k) b z = ap (steps k) (step_silent b None z refl) ∙ steps_silent k b z
 
 -- and nothing is composed
-row_none : (from : ℕ) → row_on from Nothing ≡ []
+row_none : (from : ℕ) → row_on from None ≡ []
 unfolding row_on
 row_none from = refl
 
-pub frames_silent : (k : ℕ) (b : Bench) → b.wire.sent ≡ Nothing → frames b (stepping k) ≡ []
+pub frames_silent : (k : ℕ) (b : Bench) → b.wire.sent ≡ None → frames b (stepping k) ≡ []
 unfolding frames stepping composed after_event
 frames_silent zero b z = refl
 frames_silent (suc k) b z =
-    let e : step b ≡ b = step_silent b Nothing z refl in
+    let e : step b ≡ b = step_silent b None z refl in
     let r : rows_on (step b).wire ≡ [] = ap (λ (c : Bench). rows_on c.wire) e ∙ ap (row_on b.wire.from) z ∙ row_none b.wire.from in
     rw (r, e) (frames_silent k b z)
 
 -- so once the wire is empty more steps change nothing and print nothing
-pub steps_rest : (k j : ℕ) (b : Bench) → (steps k b).wire.sent ≡ Nothing → steps (k + j) b ≡ steps k b
+pub steps_rest : (k j : ℕ) (b : Bench) → (steps k b).wire.sent ≡ None → steps (k + j) b ≡ steps k b
 steps_rest k j b z = steps_add k j b ∙ steps_silent j (steps k b) z
 
-pub text_rest : (k j : ℕ) (b : Bench) → (steps k b).wire.sent ≡ Nothing → steps_text (k + j) b ≡ steps_text k b
+pub text_rest : (k j : ℕ) (b : Bench) → (steps k b).wire.sent ≡ None → steps_text (k + j) b ≡ steps_text k b
 unfolding steps_text
 text_rest k j b z =
     ap rows_text

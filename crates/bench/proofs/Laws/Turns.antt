@@ -9,7 +9,7 @@ use Rattle.parts.specs.Choose.{pick}
 use Rattle.parts.specs.Live.{seats}
 use Rattle.station.specs.Heard.{frame_rule}
 use Rattle.parts.specs.declared.frame.Frame.{Frame}
-use Rattle.parts.specs.declared.frame.Dispatch.{Dispatch}
+use Rattle.parts.specs.Frames.{Dispatch}
 use Rattle.station.specs.declared.station.Station.{Station}
 use Rattle.station.specs.declared.station.Answer.{Answer}
 use Rattle.bench.specs.Bystander.{Untouched}

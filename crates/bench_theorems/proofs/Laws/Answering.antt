@@ -4,17 +4,15 @@ use mathlib.Core.Bool.{false}
 use Prim.Native.Nat.{ℕ, ◌<◌, ◌≤◌}
 use Rattle.parts.specs.Messages.{none}
 use Rattle.parts.specs.Live.{full, after, successor}
-use Rattle.parts.specs.Frames.{number_of, fit, flight, no_flight}
+use Rattle.parts.specs.Frames.{number_of, fit, flight}
+use Rattle.parts.specs.declared.list.Message.{Message}
 use Rattle.station.specs.Stations.{state_of, awaited_of, head}
 use Rattle.station.specs.Sight.{sight}
 use Rattle.sent.specs.Round.{reply}
 use Rattle.station.specs.Heard.{acknowledge, is_last, stored, frame_rule}
 use Rattle.parts.specs.declared.moves.State.TheVariants.{Idle, Waiting}
-use Rattle.parts.specs.declared.list.Best.{Best}
-use Rattle.parts.specs.declared.frame.Whom.TheVariants.{Nobody}
+use Rattle.std.specs.Prelude.{Option, None, Some}
 use Rattle.parts.specs.declared.frame.Frame.{Frame}
-use Rattle.parts.specs.declared.frame.Dispatch.TheVariants.{Nothing}
-use Rattle.station.specs.declared.station.Handled.TheVariants.{Last}
 use Rattle.station.specs.declared.station.Turn.{Turn}
 use Rattle.station.specs.declared.station.Station.{Station}
 use Rattle.station.specs.declared.station.Answer.{Answer}
@@ -28,14 +26,14 @@ use Rattle.bench_theorems.proofs.Laws.Heads.{head_acknowledged, rested_flight, h
 use Rattle.bench_theorems.proofs.Laws.Hearing.{stored_storing, Hears, silent_is, answer_is}
 
 -- what a member at p with the head h looks at: all are live, and its successor is the next place
-abbrev pub view : ℕ → ℕ → Best → Sight
+abbrev pub view : ℕ → ℕ → Option Message → Sight
 view n p h = record { own = p; live = full n; next = after n p; head = h }
 
 -- nothing is sent, and the station is Idle
 pub record Silent (n limit p : ℕ) (s : Station) (a : Answer) : Type 0 where
   pub number : a.number ≡ 0
-  pub sent : a.sent ≡ Nothing
-  pub nobody_struck : a.struck ≡ Nobody
+  pub sent : a.sent ≡ None
+  pub nobody_struck : a.struck ≡ None
   pub none_gone : a.gone ≡ none
   pub member : Member n limit p a.station
   pub at_rest : state_of a.station ≡ Idle
@@ -46,15 +44,15 @@ pub record Silent (n limit p : ℕ) (s : Station) (a : Answer) : Type 0 where
 pub record Answering (n limit p : ℕ) (f : Frame) (s : Station) (a : Answer) : Type 0 where
   pub number : a.number ≡ 0
   pub sent : a.sent ≡ reply (view n p (head s)) f
-  pub nobody_struck : a.struck ≡ Nobody
+  pub nobody_struck : a.struck ≡ None
   pub none_gone : a.gone ≡ none
   pub member : Member n limit p a.station
   pub waiting : state_of a.station ≡ Waiting
   pub awaited : awaited_of a.station ≡ a.sent
-  pub handled : a.station.turn.handled ≡ Last (number_of f)
-  pub same_head : flight a.sent ≡ no_flight → head a.station ≡ head s
+  pub handled : a.station.turn.handled ≡ Some (number_of f)
+  pub same_head : flight a.sent ≡ None → head a.station ≡ head s
 
-sight_view : (n p : ℕ) (h : Best) (s : Station) → 2 ≤ n → n ≤ 64 → p < n → s.n ≡ n → s.own ≡ p → s.live ≡ full n → head s ≡ h → sight s ≡ view n p h
+sight_view : (n p : ℕ) (h : Option Message) (s : Station) → 2 ≤ n → n ≤ 64 → p < n → s.n ≡ n → s.own ≡ p → s.live ≡ full n → head s ≡ h → sight s ≡ view n p h
 sight_view n p h s two most m a b c d =
     let next : successor s.live s.n s.own ≡ after n p = rw (c, a, b) (full_successor n p two most m) in
     λ i. record { own = b i; live = c i; next = next i; head = d i }

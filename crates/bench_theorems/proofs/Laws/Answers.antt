@@ -11,9 +11,8 @@ use Rattle.sent.specs.Round.{reply}
 use Rattle.station.specs.Heard.{is_last, frame_rule}
 use Rattle.wholeness.specs.Whole.{carried}
 use Rattle.parts.specs.declared.moves.State.TheVariants.{Waiting}
-use Rattle.parts.specs.declared.frame.Whom.TheVariants.{Nobody}
+use Rattle.std.specs.Prelude.{None, Some}
 use Rattle.parts.specs.declared.frame.Frame.{Frame}
-use Rattle.parts.specs.declared.frame.Dispatch.TheVariants.{Sent}
 use Rattle.station.specs.declared.station.Station.{Station}
 use Rattle.parts.proofs.Laws.Ahead.{next_ahead}
 use Rattle.bench_theorems.specs.Quiet.{Stands, sender, last_sender, at_rest, Phase, token, transmit, information, Picture}
@@ -41,7 +40,7 @@ role from to p = go (eqb p from) refl (eqb p to) refl
     go false x true y = answers (eqb-true p to y) (eqb-false p from x)
     go false x false y = overhears (eqb-false p to y) (eqb-false p from x)
 
-pub nobody_failing : {n from to : ℕ} {f : Frame} → Phase n from to f → failing_of f ≡ Nobody
+pub nobody_failing : {n from to : ℕ} {f : Frame} → Phase n from to f → failing_of f ≡ None
 nobody_failing (token t w a b) = w
 nobody_failing (transmit t m a) = refl
 nobody_failing (information i) = refl
@@ -56,7 +55,7 @@ stands_listens o (at_rest x y i) = idle i
 -- the sender waits for the frame
 pub record Waits (f : Frame) (to : ℕ) (s : Station) : Type 0 where
   pub waiting : state_of s ≡ Waiting
-  pub awaited : awaited_of s ≡ Sent f to
+  pub awaited : awaited_of s ≡ Some (f, to)
 
 pub stands_waits : {from before : ℕ} {f : Frame} {to p : ℕ} {s : Station} → p ≡ from → Stands from before f to p s → Waits f to s
 stands_waits e (sender x w a) = record { waiting = w; awaited = a }
@@ -96,7 +95,7 @@ module _ {n limit : ℕ} {at : ℕ → Station} {from : ℕ} {f : Frame} {to : �
   reply_at = reply_replied n w.most_members to w.addressee_member (head (at to)) from w.sender_member w.phase w.fits
 
   -- so the addressee sends a frame
-  pub new_sent : (frame_rule (at to) f from to).sent ≡ Sent reply_at.frame reply_at.to
+  pub new_sent : (frame_rule (at to) f from to).sent ≡ Some (reply_at.frame, reply_at.to)
   new_sent = answer_at.sent ∙ reply_at.sent
 
   -- and a message that the frame on the wire carries is in flight at its sender

@@ -4,12 +4,11 @@ use mathlib.Core.Bool.{true}
 use Prim.Native.Nat.{ℕ, ◌<◌, ◌≤◌}
 use native.Mathlib.Omega.{arith}
 use borrow.Author.Tests.{ltb-true, leb-false, eqb-false, not-true}
-use Rattle.parts.specs.Frames.{fit, flight_in, no_flight}
+use Rattle.parts.specs.Frames.{fit, flight_in, Dispatch}
 use Rattle.station.specs.Stations.{state_of, awaited_of}
 use Rattle.wholeness.specs.Whole.{carried, awaited_good}
 use Rattle.parts.specs.declared.frame.Frame.{Frame}
-use Rattle.parts.specs.declared.frame.Dispatch.{Dispatch}
-use Rattle.parts.specs.declared.frame.Dispatch.TheVariants.{Sent}
+use Rattle.std.specs.Prelude.{None, Some}
 use Rattle.station.specs.declared.station.Station.{Station}
 use Rattle.parts.proofs.Laws.Tests.{held}
 use Rattle.station_theorems.proofs.Laws.Sound.{whole_sound}
@@ -22,8 +21,8 @@ pub record Proper (n p : ℕ) (f : Frame) (to : ℕ) : Type 0 where
   pub member : to < n
   pub another : to ≡ p → ⊥
 
-module _ {n limit p : ℕ} {s : Station} (m : Member n limit p s) {f : Frame} {to : ℕ} (e : awaited_of s ≡ Sent f to) where
-  good : awaited_good (state_of s) n p s.sends (Sent f to) ≡ true
+module _ {n limit p : ℕ} {s : Station} (m : Member n limit p s) {f : Frame} {to : ℕ} (e : awaited_of s ≡ Some (f, to)) where
+  good : awaited_good (state_of s) n p s.sends (Some (f, to)) ≡ true
   good =
       subst (λ (d : Dispatch). awaited_good (state_of s) n p s.sends d ≡ true) e
       (subst (λ (i : ℕ). awaited_good (state_of s) n i s.sends (awaited_of s) ≡ true) m.own
@@ -41,7 +40,7 @@ module _ {n limit p : ℕ} {s : Station} (m : Member n limit p s) {f : Frame} {t
   awaited_there = (held _ good).1.1.1.1.0
 
 -- what is offered is still there where no head has become lower
-pub still_offers : {n : ℕ} {f : Frame} (heads later : ℕ → ℕ) → fit n f ≡ true → (flight_in f ≡ no_flight → (q : ℕ) → q < n → heads q ≤ later q)
+pub still_offers : {n : ℕ} {f : Frame} (heads later : ℕ → ℕ) → fit n f ≡ true → (flight_in f ≡ None → (q : ℕ) → q < n → heads q ≤ later q)
     → Offers heads f → Offers later f
 still_offers heads later e w (no_bid t a b) = no_bid t a b
 still_offers {n} heads later e w (bid t a b) =

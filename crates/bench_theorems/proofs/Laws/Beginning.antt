@@ -9,7 +9,7 @@ use lib.Seq.{get_or-set_same, get_or-set_other}
 use borrow.Author.Tests.{ltb-true, ltb-false}
 use Rattle.parts.specs.Live.{seats}
 use Rattle.parts.specs.declared.frame.Frame.{Frame}
-use Rattle.parts.specs.declared.frame.Dispatch.TheVariants.{Sent}
+use Rattle.std.specs.Prelude.{Some}
 use Rattle.bench.specs.Ring.{nobody, station_at, on_wire, first_answer, start_at, start_down, empty_bench, ring_with}
 use Rattle.bench.specs.declared.ring.Bench.{Bench}
 use Rattle.bench.proofs.Laws.Starting.{start_one}
@@ -38,7 +38,7 @@ module _ (limit : ℕ) where
   unfolding start_at
   one_other b k p o = get_or-set_other b.stations k p (first_answer b.n limit k).station nobody o
 
-  one_wire : (b : Bench) (k : ℕ) (f : Frame) (to : ℕ) → (first_answer b.n limit k).sent ≡ Sent f to → (start_at limit b k).wire ≡ record { from = k; sent = Sent f to }
+  one_wire : (b : Bench) (k : ℕ) (f : Frame) (to : ℕ) → (first_answer b.n limit k).sent ≡ Some (f, to) → (start_at limit b k).wire ≡ record { from = k; sent = Some (f, to) }
   unfolding start_at on_wire
   one_wire b k f to e = ap (on_wire b.wire k) e
 
@@ -74,7 +74,7 @@ module _ (limit : ℕ) where
           ∙ ap (λ (i : ℕ). (first_answer b.n limit i).station) (sym same)
 
   -- station 0 starts last, and its frame is on the wire
-  all_wire : (k : ℕ) (b : Bench) (f : Frame) (to : ℕ) → (first_answer b.n limit 0).sent ≡ Sent f to → (start_down limit (suc k) b).wire ≡ record { from = 0; sent = Sent f to }
+  all_wire : (k : ℕ) (b : Bench) (f : Frame) (to : ℕ) → (first_answer b.n limit 0).sent ≡ Some (f, to) → (start_down limit (suc k) b).wire ≡ record { from = 0; sent = Some (f, to) }
   all_wire zero b f to e =
       ap (λ (c : Bench). c.wire) (start_one limit b 0) ∙ ap (λ (c : Bench). c.wire) (start_zero limit (start_at limit b 0)) ∙ one_wire b 0 f to e
   all_wire (suc k) b f to e =
@@ -99,7 +99,7 @@ module _ (n limit : ℕ) (two : 2 ≤ n) (most : n ≤ 64) where
   unfolding ring_with
   ring_at p h = all_below limit (seats n) (empty_bench n) p (omega (arith, empty_length, seats_most n most)) (omega (arith, seats_most n most))
 
-  pub ring_wire : (f : Frame) (to : ℕ) → (first_answer n limit 0).sent ≡ Sent f to → (ring_with n limit).wire ≡ record { from = 0; sent = Sent f to }
+  pub ring_wire : (f : Frame) (to : ℕ) → (first_answer n limit 0).sent ≡ Some (f, to) → (ring_with n limit).wire ≡ record { from = 0; sent = Some (f, to) }
   unfolding ring_with
   ring_wire f to e =
       let one : seats n ≡ suc (n - 1) = seats_most n most ∙ omega arith in

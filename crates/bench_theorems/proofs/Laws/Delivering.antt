@@ -6,8 +6,8 @@ use lib.ListN.{length}
 use Rattle.station.specs.Stations.{head}
 use Rattle.sent.specs.Round.{reply}
 use Rattle.station.specs.Heard.{frame_rule}
-use Rattle.parts.specs.declared.frame.Dispatch.{Dispatch}
-use Rattle.parts.specs.declared.frame.Dispatch.TheVariants.{Sent}
+use Rattle.parts.specs.Frames.{Dispatch}
+use Rattle.std.specs.Prelude.{Some}
 use Rattle.bench.specs.Ring.{station_at}
 use Rattle.bench.specs.Delivery.{reply_of, deliver_to, others, deliver, step_on, step}
 use Rattle.bench.specs.declared.ring.Wire.{Wire}
@@ -45,13 +45,13 @@ module _ {limit : ℕ} (b : Bench) (q : Quiet limit b) where
   reply_in = reply_at q.picture
 
   -- it is on the wire
-  delivered_wire : (deliver b q.frame q.to).wire ≡ record { from = q.to; sent = Sent reply_in.frame reply_in.to }
+  delivered_wire : (deliver b q.frame q.to).wire ≡ record { from = q.to; sent = Some (reply_in.frame, reply_in.to) }
   unfolding deliver_to
   delivered_wire =
       ap (λ (d : Dispatch). let w : Wire = record { from = q.to; sent = d } in w)
       (replied ∙ new_sent q.picture)
 
-  pub step_wire : (step b).wire ≡ record { from = q.to; sent = Sent reply_in.frame reply_in.to }
+  pub step_wire : (step b).wire ≡ record { from = q.to; sent = Some (reply_in.frame, reply_in.to) }
   step_wire = ap (λ (c : Bench). c.wire) step_delivers ∙ delivered_wire
 
   delivered_picture : Picture b.n limit (station_at (deliver b q.frame q.to)) q.to reply_in.frame reply_in.to

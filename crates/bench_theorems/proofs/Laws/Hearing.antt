@@ -19,11 +19,10 @@ use Rattle.station.specs.Heard.{Stored, acknowledge, is_last, nothing_more, hear
 use Rattle.parts.specs.Refusals.{heard_refusal}
 use Rattle.parts.specs.declared.moves.State.TheVariants.{Idle}
 use Rattle.parts.specs.declared.list.Message.{Message}
-use Rattle.parts.specs.declared.frame.Whom.TheVariants.{Nobody}
+use Rattle.std.specs.Prelude.{None, Some}
 use Rattle.parts.specs.declared.frame.Frame.{Frame}
 use Rattle.parts.specs.declared.frame.Frame.TheVariants.{Token, Transmit, Information}
 use Rattle.station.specs.declared.station.Station.{Station}
-use Rattle.station.specs.declared.station.Payload.TheVariants.{NoPayload, Of}
 use Rattle.station.proofs.Laws.Heard.{responds, handles, hears, frame_runs}
 use Rattle.bench.specs.Delivery.{is_nobody}
 use Rattle.bench.proofs.Laws.StandsBy.{unharmed, failed_nobody, respond_elsewhere}
@@ -64,8 +63,8 @@ receive_storing s m = go (leb 16 s.receives.len)
     go : (b : Bool)
         → Storing s
         (pick {A = Stored} b
-        (record { station = with_lost s (add_up_to s.counts.lost 1); payload = NoPayload })
-        (record { station = with_receives s (pushed s.receives m); payload = Of m })
+        (record { station = with_lost s (add_up_to s.counts.lost 1); payload = None })
+        (record { station = with_receives s (pushed s.receives m); payload = Some m })
         ).station
     go true = record { same_n = refl; same_limit = refl; same_own = refl; same_live = refl; same_sends = refl; same_turn = refl }
     go false = record { same_n = refl; same_limit = refl; same_own = refl; same_live = refl; same_sends = refl; same_turn = refl }
@@ -89,7 +88,7 @@ pub record Hears (n limit p : ℕ) (s : Station) (f : Frame) (from to : ℕ) : T
   pub addressee : to < n
   pub apart : from ≡ to → ⊥
   pub another : from ≡ p → ⊥
-  pub nobody : failing_of f ≡ Nobody
+  pub nobody : failing_of f ≡ None
   pub fits : fit n f ≡ true
 
 module _ {n limit p : ℕ} {s : Station} {f : Frame} {from to : ℕ} (h : Hears n limit p s f from to) where

@@ -10,7 +10,8 @@ use lib.ListN.{length}
 use borrow.Author.Tests.{ltb-true, eqb-true}
 use Rattle.parts.specs.Choose.{pick}
 use Rattle.parts.specs.Moves.{move_of, runs}
-use Rattle.parts.specs.Messages.{all, pushed, fits, the_best, no_best, better_of, best_of, best}
+use Rattle.parts.specs.Messages.{all, pushed, fits, better_of, best_of, best}
+use Rattle.std.specs.Prelude.{Option, None, Some}
 use Rattle.parts.specs.Live.{live_at}
 use Rattle.parts.specs.Frames.{flight}
 use Rattle.station.specs.Stations.{state_of, awaited_of, with_sends, head, answered, moved, unless}
@@ -18,7 +19,6 @@ use Rattle.sent.specs.Round.{priority_of}
 use Rattle.station.specs.Queue.{new_message, accepted, queue_number, queue_rule}
 use Rattle.parts.specs.declared.moves.Event.TheVariants.{Queue}
 use Rattle.parts.specs.declared.list.Message.{Message}
-use Rattle.parts.specs.declared.list.Best.{Best}
 use Rattle.parts.specs.declared.list.Which.{Which}
 use Rattle.parts.specs.declared.list.Which.TheVariants.{AnyWaiting}
 use Rattle.parts.specs.declared.request.Request.{Request}
@@ -32,16 +32,15 @@ use Rattle.bench_theorems.specs.Quiet.{head_priority}
 
 -- ---- a message more in the send list
 
-better_rises : (w : Which) (b : Best) (m : Message) → priority_of b ≤ priority_of (better_of w b m)
+better_rises : (w : Which) (b : Option Message) (m : Message) → priority_of b ≤ priority_of (better_of w b m)
 unfolding better_of pick
-better_rises w b m = go (fits w m) b.some refl (ltb b.message.priority m.priority) refl
+better_rises w None m = omega arith
+better_rises w (Some c) m = go (fits w m) (ltb c.priority m.priority) refl
   where
-    go : (t u : Bool) → b.some ≡ u → (v : Bool) → ltb b.message.priority m.priority ≡ v
-        → pick u b.message.priority 0 ≤ priority_of (pick t (pick u (pick v (the_best m) b) (the_best m)) b)
-    go false u e v d = rw e (omega arith)
-    go true false e v d = omega arith
-    go true true e true d = let h : b.message.priority < m.priority = ltb-true _ _ d in omega arith
-    go true true e false d = rw e (omega arith)
+    go : (t v : Bool) → ltb c.priority m.priority ≡ v → c.priority ≤ priority_of (pick t (pick v (Some m) (Some c)) (Some c))
+    go false v d = omega arith
+    go true true d = let h : c.priority < m.priority = ltb-true _ _ d in omega arith
+    go true false d = omega arith
 
 -- ---- the station
 
@@ -62,8 +61,8 @@ unfolding head best
 head_pushed s m full room =
     let w : Which = AnyWaiting (flight (awaited_of s)) in
     let e : best w (pushed s.sends m) ≡ better_of w (best w s.sends) m =
-    ap (λ (l : List Message). best_of w l no_best) (push_all s.sends m full room)
-    ∙ best_append w (all s.sends) (m ∷ []) no_best
+    ap (λ (l : List Message). best_of w l None) (push_all s.sends m full room)
+    ∙ best_append w (all s.sends) (m ∷ []) None
     ∙ best_more w m [] (best w s.sends)
     ∙ best_none w _ in
     omega (arith, ap priority_of e, better_rises w (best w s.sends) m)

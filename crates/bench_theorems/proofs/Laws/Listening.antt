@@ -1,11 +1,10 @@
 -- Laws of a station that a frame finds Idle, or waiting and acknowledges: it is Idle once the frame has acknowledged it.
 -- Assumes nothing.
 use mathlib.Core.Path.{◌≡◌, refl, sym, ap, subst, ◌∙◌}
-use mathlib.Core.Bool.{Bool, true, false}
+use mathlib.Core.Bool.{true}
 use Prim.Native.Nat.{ℕ}
-use Rattle.parts.specs.Choose.{pick}
 use Rattle.parts.specs.Moves.{move_of, runs, is_waiting}
-use Rattle.parts.specs.Frames.{number_of, flight, is_ahead, acknowledges}
+use Rattle.parts.specs.Frames.{number_of, flight, is_ahead, acknowledges, Dispatch}
 use Rattle.station.specs.Stations.{state_of, awaited_of, quiet}
 use Rattle.station.specs.Strike.{leave}
 use Rattle.station.specs.Heard.{acknowledged, landed, acknowledge}
@@ -13,10 +12,9 @@ use Rattle.parts.specs.declared.moves.State.{State}
 use Rattle.parts.specs.declared.moves.State.TheVariants.{Idle, Waiting}
 use Rattle.parts.specs.declared.moves.Event.TheVariants.{Heard}
 use Rattle.parts.specs.declared.frame.Frame.{Frame}
-use Rattle.parts.specs.declared.frame.Dispatch.{Dispatch}
-use Rattle.parts.specs.declared.frame.Dispatch.TheVariants.{Sent}
+use Rattle.std.specs.Prelude.{Some}
 use Rattle.station.specs.declared.station.Station.{Station}
-use Rattle.parts.proofs.Laws.Choose.{pick_true}
+use Rattle.parts.proofs.Laws.Choose.{pick_true, map_or_keeps}
 use Rattle.bench.proofs.Laws.StandsBy.{unacknowledged}
 
 -- Idle, or acknowledged by a frame from `from` with the number k
@@ -41,7 +39,7 @@ listens_runs (idle i) = ap (λ (st : State). move_of st Heard) i
 listens_runs (waits w e) = ap (λ (st : State). move_of st Heard) w
 
 -- a station that waits is acknowledged by a number that lies ahead of its frame's
-pub ahead_acknowledges : (s : Station) (from k : ℕ) (g : Frame) (to : ℕ) → state_of s ≡ Waiting → awaited_of s ≡ Sent g to
+pub ahead_acknowledges : (s : Station) (from k : ℕ) (g : Frame) (to : ℕ) → state_of s ≡ Waiting → awaited_of s ≡ Some (g, to)
     → acknowledged s from k ≡ is_ahead (number_of g) k
 unfolding acknowledged acknowledges
 ahead_acknowledges s from k g to w a = pick_true _ _ (ap is_waiting w) ∙ ap (λ (d : Dispatch). acknowledges d from k) a
@@ -51,12 +49,11 @@ unfolding acknowledge
 acknowledged_by s from k e = pick_true _ _ e
 
 landed_seat : (s : Station) → SameSeat s (quiet (landed s) Idle)
-unfolding landed pick
-landed_seat s = go (flight (awaited_of s)).on
-  where
-    go : (b : Bool) → SameSeat s (quiet (pick b (leave s (flight (awaited_of s)).place) s) Idle)
-    go true = record { same_n = refl; same_limit = refl; same_own = refl; same_live = refl; same_handled = refl }
-    go false = record { same_n = refl; same_limit = refl; same_own = refl; same_live = refl; same_handled = refl }
+unfolding landed
+landed_seat s =
+    map_or_keeps (λ (t : Station). SameSeat s (quiet t Idle)) (leave s) (flight (awaited_of s)) s
+    (λ p. record { same_n = refl; same_limit = refl; same_own = refl; same_live = refl; same_handled = refl })
+    (record { same_n = refl; same_limit = refl; same_own = refl; same_live = refl; same_handled = refl })
 
 pub idle_stays : (s : Station) (from k : ℕ) → state_of s ≡ Idle → acknowledge s from k ≡ s
 idle_stays s from k i = unacknowledged s from k (ap is_waiting i)

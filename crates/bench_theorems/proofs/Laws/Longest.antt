@@ -9,7 +9,7 @@ use borrow.Author.Tests.{le-leb, lt-leb, leb-true, leb-false}
 use Rattle.parts.specs.Live.{after}
 use Rattle.parts.specs.Frames.{fit}
 use Rattle.sent.specs.Round.{opening, passing}
-use Rattle.parts.specs.declared.frame.Whom.{Whom}
+use Rattle.std.specs.Prelude.{Option}
 use Rattle.parts.specs.declared.frame.TokenFrame.{TokenFrame}
 use Rattle.parts.specs.declared.frame.TransmitFrame.{TransmitFrame}
 use Rattle.parts.specs.declared.frame.InformationFrame.{InformationFrame}
@@ -67,7 +67,7 @@ longest_here n p (Transmit t) = omega (arith, longest_transmit n p t p)
 longest_here n p (Information i) = omega (arith, longest_information n p i p)
 
 -- a new round
-pub longest_round : (n p priority number : ℕ) (w : Whom) (q : ℕ) → p < n → q < n → (q ≡ p → ⊥) → longest n p (Token (opening p priority number w)) q ≡ n + 3
+pub longest_round : (n p priority number : ℕ) (w : Option ℕ) (q : ℕ) → p < n → q < n → (q ≡ p → ⊥) → longest n p (Token (opening p priority number w)) q ≡ n + 3
 longest_round n p priority number w q h i o =
     let z : offset n p p ≡ 0 = offset_own n p h in
     let some : offset n p q ≡ offset n p p → ⊥ = λ e. o (offset_same n p h q p i h e) in
@@ -75,7 +75,7 @@ longest_round n p priority number w q h i o =
     omega arith
 
 -- a token passed on
-module _ (n from p q : ℕ) (t : TokenFrame) (number : ℕ) (w : Whom) (b : Bid) where
+module _ (n from p q : ℕ) (t : TokenFrame) (number : ℕ) (w : Option ℕ) (b : Bid) where
   abbrev on : TokenFrame
   on = passing number t w b
 

@@ -4,8 +4,7 @@ use Prim.Native.Nat.{ℕ, ◌<◌, ◌≤◌}
 use native.Mathlib.Omega.{arith}
 use Rattle.parts.specs.Live.{after}
 use Rattle.sent.specs.Round.{opening}
-use Rattle.parts.specs.declared.frame.Whom.TheVariants.{Nobody}
-use Rattle.parts.specs.declared.frame.Dispatch.TheVariants.{Sent}
+use Rattle.std.specs.Prelude.{None, Some}
 use Rattle.station.specs.declared.station.Station.{Station}
 use Rattle.bench.specs.Ring.{station_at, ring_with}
 use Rattle.bench.specs.declared.ring.Wire.{Wire}
@@ -39,8 +38,8 @@ module _ (n limit : ℕ) (two : 2 ≤ n) (most : n ≤ 64) (low : 1 ≤ limit) (
         addressee_member = proper.member;
         another = proper.another;
         fits = proper.fits;
-        phase = token (opening 0 0 0 Nobody) refl refl (omega arith);
-        offers = no_bid (opening 0 0 0 Nobody) refl refl;
+        phase = token (opening 0 0 0 None) refl refl (omega arith);
+        offers = no_bid (opening 0 0 0 None) refl refl;
         before = 0;
         before_member = omega arith;
         first = λ e. refl;
@@ -49,7 +48,7 @@ module _ (n limit : ℕ) (two : 2 ≤ n) (most : n ≤ 64) (low : 1 ≤ limit) (
       }
 
   -- the first frame on the wire is number 0, from station 0 to the next
-  pub first_wire : (ring_with n limit).wire ≡ record { from = 0; sent = Sent first_frame (after n 0) }
+  pub first_wire : (ring_with n limit).wire ≡ record { from = 0; sent = Some (first_frame, after n 0) }
   first_wire = ring_wire n limit two most first_frame (after n 0) (first_sent n limit two most)
 
   pub quiet_start : Quiet limit (ring_with n limit)

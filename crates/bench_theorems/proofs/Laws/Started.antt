@@ -14,12 +14,10 @@ use Rattle.sent.specs.Round.{opening, start_round}
 use Rattle.station.specs.Start.{sent_first, started, start_rule}
 use Rattle.parts.specs.declared.moves.State.TheVariants.{Idle}
 use Rattle.parts.specs.declared.moves.Event.TheVariants.{Start}
-use Rattle.parts.specs.declared.frame.Whom.TheVariants.{Nobody}
+use Rattle.std.specs.Prelude.{None, Some}
 use Rattle.parts.specs.declared.frame.Frame.{Frame}
 use Rattle.parts.specs.declared.frame.Frame.TheVariants.{Token}
-use Rattle.parts.specs.declared.frame.Dispatch.{Dispatch}
-use Rattle.parts.specs.declared.frame.Dispatch.TheVariants.{Sent}
-use Rattle.station.specs.declared.station.Handled.TheVariants.{Never}
+use Rattle.parts.specs.Frames.{Dispatch}
 use Rattle.station.specs.declared.station.Answer.{Answer}
 use Rattle.parts.proofs.Laws.Choose.{pick_true, pick_false}
 use Rattle.station.proofs.Laws.Moved.{moved_runs}
@@ -32,18 +30,18 @@ use Rattle.bench_theorems.proofs.Laws.FullSet.{full_successor}
 
 -- "Station 0 starts a round with frame number 0"
 abbrev pub first_frame : Frame
-first_frame = Token (opening 0 0 0 Nobody)
+first_frame = Token (opening 0 0 0 None)
 
 module _ (n limit : ℕ) (two : 2 ≤ n) (most : n ≤ 64) where
   starts : (p : ℕ) → first_answer n limit p ≡ started (made n limit p)
   unfolding start_rule
   starts p = moved_runs (made n limit p) Start (started (made n limit p)) refl refl
 
-  first_round : start_round (sight (made n limit 0)) 0 Nobody ≡ Sent first_frame (after n 0)
+  first_round : start_round (sight (made n limit 0)) 0 None ≡ Some (first_frame, after n 0)
   unfolding start_round head best best_of pick
-  first_round = ap (λ (q : ℕ). let d : Dispatch = Sent first_frame q in d) (full_successor n 0 two most (omega arith))
+  first_round = ap (λ (q : ℕ). let d : Dispatch = Some (first_frame, q) in d) (full_successor n 0 two most (omega arith))
 
-  starts_first : first_answer n limit 0 ≡ sent_first (made n limit 0) (Sent first_frame (after n 0))
+  starts_first : first_answer n limit 0 ≡ sent_first (made n limit 0) (Some (first_frame, after n 0))
   unfolding started
   starts_first = starts 0 ∙ pick_true _ _ refl ∙ ap (sent_first (made n limit 0)) first_round
 
@@ -51,7 +49,7 @@ module _ (n limit : ℕ) (two : 2 ≤ n) (most : n ≤ 64) where
   unfolding started
   starts_idle p o = starts p ∙ pick_false _ _ (ne_eqb p 0 o)
 
-  pub first_sent : (first_answer n limit 0).sent ≡ Sent first_frame (after n 0)
+  pub first_sent : (first_answer n limit 0).sent ≡ Some (first_frame, after n 0)
   first_sent = ap (λ (a : Answer). a.sent) starts_first
 
   -- a member as it starts
@@ -59,7 +57,7 @@ module _ (n limit : ℕ) (two : 2 ≤ n) (most : n ≤ 64) where
     pub number : a.number ≡ 0
     pub member : Member n limit p a.station
     pub stands : Stands 0 0 first_frame (after n 0) p a.station
-    pub handled : a.station.turn.handled ≡ Never
+    pub handled : a.station.turn.handled ≡ None
 
   pub begun : 1 ≤ limit → limit ≤ 15 → (p : ℕ) → p < n → Begun p (first_answer n limit p)
   begun low high p h = go (eqb p 0) refl
@@ -70,8 +68,8 @@ module _ (n limit : ℕ) (two : 2 ≤ n) (most : n ≤ 64) where
       go : (t : Bool) → eqb p 0 ≡ t → Begun p (first_answer n limit p)
       go true e =
           let z : p ≡ 0 = eqb-true p 0 e in
-          let is : first_answer n limit p ≡ sent_first (made n limit p) (Sent first_frame (after n 0)) =
-          ap (first_answer n limit) z ∙ starts_first ∙ ap (λ (i : ℕ). sent_first (made n limit i) (Sent first_frame (after n 0))) (sym z) in
+          let is : first_answer n limit p ≡ sent_first (made n limit p) (Some (first_frame, after n 0)) =
+          ap (first_answer n limit) z ∙ starts_first ∙ ap (λ (i : ℕ). sent_first (made n limit i) (Some (first_frame, after n 0))) (sym z) in
           subst (Begun p) (sym is)
           (record {
             number = refl;

@@ -2,12 +2,12 @@
 use mathlib.Core.Path.{◌≡◌, refl, sym, ap, subst, ◌∙◌}
 use Prim.Native.Nat.{ℕ, ◌<◌}
 use native.Mathlib.Omega.{arith}
-use Rattle.parts.specs.Frames.{number_of, next, flight, flight_in, no_flight}
+use Rattle.parts.specs.Frames.{number_of, next, flight, flight_in}
 use Rattle.station.specs.Stations.{state_of, awaited_of, head}
 use Rattle.sent.specs.Round.{priority_of}
 use Rattle.station.specs.Heard.{frame_rule}
 use Rattle.parts.specs.declared.frame.Frame.{Frame}
-use Rattle.parts.specs.declared.frame.Dispatch.TheVariants.{Sent}
+use Rattle.std.specs.Prelude.{None, Some}
 use Rattle.station.specs.declared.station.Station.{Station}
 use Rattle.bench_theorems.specs.Quiet.{Member, Stands, sender, last_sender, at_rest, head_priority, Behind, longest, Picture}
 use Rattle.bench_theorems.proofs.Laws.Numbers.{one_behind, just_behind}
@@ -41,7 +41,7 @@ module _
         go (answers e o) = at_addressee (Member n limit) p e (answer_at w).member
         go (overhears x o) = subst (Member n limit p) (sym (heard p h o)) (silent_at w p h o x).member
 
-    new_awaited : awaited_of (later to) ≡ Sent new_frame new_to
+    new_awaited : awaited_of (later to) ≡ Some (new_frame, new_to)
     new_awaited = ap awaited_of (heard to w.addressee_member w.another) ∙ (answer_at w).awaited ∙ new_sent w
 
     new_proper : Proper n to new_frame new_to
@@ -79,7 +79,7 @@ module _
             older x (ap (λ (s : Station). s.turn.handled) (heard p h o) ∙ (silent_at w p h o x).same_handled)
 
     -- no head changes but where one goes out as information
-    later_head : flight_in new_frame ≡ no_flight → (p : ℕ) → p < n → head (later p) ≡ head (at p)
+    later_head : flight_in new_frame ≡ None → (p : ℕ) → p < n → head (later p) ≡ head (at p)
     later_head none p h = go (role from to p)
       where
         go : Role from to p → head (later p) ≡ head (at p)

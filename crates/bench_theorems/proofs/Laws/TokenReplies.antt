@@ -7,16 +7,13 @@ use lib.Dec.{ltb, eqb}
 use borrow.Author.Tests.{leb-false, eqb-true, eqb-false, ltb-true}
 use Rattle.parts.specs.Choose.{pick}
 use Rattle.parts.specs.Live.{after}
-use Rattle.parts.specs.Frames.{next, fit}
+use Rattle.parts.specs.Frames.{next, fit, Dispatch}
 use Rattle.sent.specs.Round.{priority_of, granting, passing, grant, returned, bid_of, own_bid, cleared, raised, forward, pass_on, on_token, reply}
-use Rattle.parts.specs.declared.list.Best.{Best}
-use Rattle.parts.specs.declared.frame.Whom.{Whom}
-use Rattle.parts.specs.declared.frame.Whom.TheVariants.{Nobody}
+use Rattle.parts.specs.declared.list.Message.{Message}
+use Rattle.std.specs.Prelude.{Option, None, Some}
 use Rattle.parts.specs.declared.frame.TokenFrame.{TokenFrame}
 use Rattle.parts.specs.declared.frame.Frame.{Frame}
 use Rattle.parts.specs.declared.frame.Frame.TheVariants.{Token, Transmit, Information}
-use Rattle.parts.specs.declared.frame.Dispatch.{Dispatch}
-use Rattle.parts.specs.declared.frame.Dispatch.TheVariants.{Sent}
 use Rattle.sent.specs.declared.round.Bid.{Bid}
 use Rattle.parts.proofs.Laws.Choose.{pick_true}
 use Rattle.station_theorems.proofs.Laws.Sending.{passes}
@@ -30,7 +27,7 @@ use Rattle.bench_theorems.proofs.Laws.Replies.{Replied, either, first_of, round_
 -- ---- what is offered
 
 -- a token of another number offers the same
-renumbered : {heads : ℕ → ℕ} {t : TokenFrame} (j : ℕ) (w : Whom) → Offers heads (Token t) → Offers heads (Token (passing j t w (bid_of t)))
+renumbered : {heads : ℕ → ℕ} {t : TokenFrame} (j : ℕ) (w : Option ℕ) → Offers heads (Token t) → Offers heads (Token (passing j t w (bid_of t)))
 renumbered j w (no_bid t z e) = no_bid _ z e
 renumbered j w (bid t a b) = bid _ a b
 
@@ -41,7 +38,7 @@ grants j p some (bid t a b) = granted _ a b
 
 -- ---- a token
 
-module _ (n : ℕ) (most : n ≤ 64) (p : ℕ) (place : p < n) (h : Best) (from : ℕ) (sender : from < n) (t : TokenFrame) (nobody : t.failing ≡ Nobody) (master : t.master < n) (name : t.named < n) (at : p ≡ after n from) where
+module _ (n : ℕ) (most : n ≤ 64) (p : ℕ) (place : p < n) (h : Option Message) (from : ℕ) (sender : from < n) (t : TokenFrame) (nobody : t.failing ≡ None) (master : t.master < n) (name : t.named < n) (at : p ≡ after n from) where
   abbrev m : ℕ
   m = t.master
 
@@ -94,7 +91,7 @@ module _ (n : ℕ) (most : n ≤ 64) (p : ℕ) (place : p < n) (h : Best) (from 
 
     on_replied : (b : Bid) → offset n m b.named ≤ offset n m p
         → ((heads : ℕ → ℕ) → heads p ≡ priority_of h → Offers heads asked_by → Offers heads (Token (on b)))
-        → Reply (Sent (Token (on b)) (after n p))
+        → Reply (Some (Token (on b), after n p))
     on_replied b a x =
         record {
           frame = Token (on b);
@@ -133,7 +130,7 @@ module _ (n : ℕ) (most : n ≤ 64) (p : ℕ) (place : p < n) (h : Best) (from 
 
 -- ---- any frame
 
-pub reply_replied : (n : ℕ) → n ≤ 64 → (p : ℕ) → p < n → (h : Best) (from : ℕ) → from < n → {f : Frame} → Phase n from p f → fit n f ≡ true
+pub reply_replied : (n : ℕ) → n ≤ 64 → (p : ℕ) → p < n → (h : Option Message) (from : ℕ) → from < n → {f : Frame} → Phase n from p f → fit n f ≡ true
     → Replied n from f p h (reply (view n p h) f)
 unfolding reply
 reply_replied n most p place h from sender (token t nobody at asked) e =

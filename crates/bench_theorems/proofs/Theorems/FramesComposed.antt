@@ -6,7 +6,7 @@ use Prim.Native.Nat.{ℕ, zero, suc, ◌≤◌}
 use native.Mathlib.Omega.{arith}
 use lib.ListN.{length, length-append}
 use Rattle.parts.specs.declared.frame.Frame.{Frame}
-use Rattle.parts.specs.declared.frame.Dispatch.TheVariants.{Sent}
+use Rattle.std.specs.Prelude.{Some}
 use Rattle.bench.specs.Ring.{ring_with}
 use Rattle.bench.specs.Delivery.{step}
 use Rattle.bench.specs.Rows.{row_on, rows_on}
@@ -27,7 +27,7 @@ step_is_delivery n limit two most low high es =
 
 -- ---- how many
 
-one_row : (from : ℕ) (f : Frame) (to : ℕ) → length (row_on from (Sent f to)) ≡ 1
+one_row : (from : ℕ) (f : Frame) (to : ℕ) → length (row_on from (Some (f, to))) ≡ 1
 unfolding row_on
 one_row from f to = refl
 

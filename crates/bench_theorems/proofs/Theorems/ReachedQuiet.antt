@@ -8,8 +8,8 @@ use lib.Dec.{leb}
 use Rattle.parts.specs.Choose.{pick}
 use Rattle.parts.specs.Live.{seats}
 use Rattle.station.specs.Queue.{queue_rule}
-use Rattle.parts.specs.declared.frame.Dispatch.{Dispatch}
-use Rattle.parts.specs.declared.frame.Dispatch.TheVariants.{Nothing, Sent}
+use Rattle.parts.specs.Frames.{Dispatch}
+use Rattle.std.specs.Prelude.{None, Some}
 use Rattle.bench.specs.Ring.{station_at, ring_with}
 use Rattle.bench.specs.Delivery.{deliver_to, step_on, step}
 use Rattle.bench.specs.Calls.{queue_at, queue}
@@ -39,8 +39,8 @@ reached_quiet n limit two most low high es = quiet_run (ring_with n limit) (quie
 
 step_n : (b : Bench) (d : Dispatch) → (step_on b d).n ≡ b.n
 unfolding step_on deliver_to
-step_n b Nothing = refl
-step_n b (Sent frame to) = refl
+step_n b None = refl
+step_n b (Some (frame, to)) = refl
 
 pub event_n : (b : Bench) (e : Event) → (after_event b e).n ≡ b.n
 unfolding after_event step queue pick

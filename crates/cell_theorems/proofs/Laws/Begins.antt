@@ -5,7 +5,7 @@ use Prim.Native.Nat.{ℕ, ◌<◌}
 use lib.ListN.{get_or}
 use Rattle.codec.specs.Ring.{read_ring}
 use Rattle.parts.specs.declared.frame.Frame.{Frame}
-use Rattle.parts.specs.declared.frame.Dispatch.TheVariants.{Nothing, Sent}
+use Rattle.std.specs.Prelude.{None, Some}
 use Rattle.station.specs.Stations.{made}
 use Rattle.station.specs.Start.{start_rule}
 use Rattle.station.specs.declared.station.Answer.{Answer}
@@ -67,14 +67,14 @@ module _ (file : List ℕ) (good : (read_ring file).number ≡ 0) (p : ℕ) (h :
         store_octets = b.store_octets;
       }
 
-  pub begun_silent : first.sent ≡ Nothing → get_or b.told 0 0 ≡ 0
+  pub begun_silent : first.sent ≡ None → get_or b.told 0 0 ≡ 0
   unfolding sent_size
   begun_silent e =
       ap (λ (l : List ℕ). get_or l 0 0) (b.starts.told_is ∙ kept_new b.number b.lent.told _ start_done)
       ∙ ap (sent_size (ring_in b.made)) (ap (λ (a : Answer). a.sent) answer_is ∙ e)
 
   -- whatever the store
-  pub begun_conveys : (f : Frame) (to : ℕ) → first.sent ≡ Sent f to → Conveyed (ring_of file) node.store f to b.out b.told
+  pub begun_conveys : (f : Frame) (to : ℕ) → first.sent ≡ Some (f, to) → Conveyed (ring_of file) node.store f to b.out b.told
   unfolding held_made
   begun_conveys f to e =
       let s = subst (λ (r : ℕ). Starting b.made b.lent.out b.lent.told r node.rec b.out b.told) start_done b.starts in

@@ -6,8 +6,8 @@ use native.Mathlib.Omega.{arith}
 use Rattle.codec.specs.Octets.{Octets}
 use Rattle.codec.specs.Ring.{read_ring, position}
 use Rattle.parts.specs.declared.frame.Frame.{Frame}
-use Rattle.parts.specs.declared.frame.Dispatch.{Dispatch}
-use Rattle.parts.specs.declared.frame.Dispatch.TheVariants.{Nothing, Sent}
+use Rattle.parts.specs.Frames.{Dispatch}
+use Rattle.std.specs.Prelude.{None, Some}
 use Rattle.station.specs.Stations.{awaited_of}
 use Rattle.driver_calls.specs.Calls.{ring_of, station_in}
 use Rattle.driver_buffers.specs.Places.{carried_in}
@@ -27,7 +27,7 @@ use Rattle.cell_theorems.proofs.Laws.Nodes.{Kept}
 pub record Carries (file store : List ℕ) (w : Transit) (v : Wire) : Type 0 where
   pub frame : Frame
   pub to : ℕ
-  pub frame_is : v.sent ≡ Sent frame to
+  pub frame_is : v.sent ≡ Some (frame, to)
   pub on_wire : OnWire (ring_of file) frame (carried_in store frame) w.octets
   pub from_address : w.from ≡ address_at file v.from
   pub to_address : w.to ≡ address_at file to
@@ -45,12 +45,12 @@ pub record Matches (file : List ℕ) (c : Cell) (b : Bench) : Type 0 where
 
 -- the frame of a dispatch, and where it goes
 abbrev pub frame_in : Frame → Dispatch → Frame
-frame_in d Nothing = d
-frame_in d (Sent f to) = f
+frame_in d None = d
+frame_in d (Some (f, to)) = f
 
 abbrev pub to_in : ℕ → Dispatch → ℕ
-to_in d Nothing = d
-to_in d (Sent f to) = to
+to_in d None = d
+to_in d (Some (f, to)) = to
 
 module _ {file : List ℕ} {c : Cell} {b : Bench} (m : Matches file c b) where
   pub as_bench : AsBench file c b
@@ -99,7 +99,7 @@ module _ {file : List ℕ} {c : Cell} {b : Bench} (m : Matches file c b) where
 
 -- what a call leaves that sends f
 pub left_carries : (file store : List ℕ) → Octets store → (p : ℕ) (f : Frame) (to : ℕ) (out told : List ℕ) → Conveyed (ring_of file) store f to out told
-    → Carries file store (left (address_at file p) out told) (record { from = p; sent = Sent f to })
+    → Carries file store (left (address_at file p) out told) (record { from = p; sent = Some (f, to) })
 left_carries file store o p f to out told k =
     record {
       frame = f;

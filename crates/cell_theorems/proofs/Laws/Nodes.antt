@@ -10,7 +10,8 @@ use Rattle.codec.specs.Octets.{Octets}
 use Rattle.codec.specs.Ring.{position, read_ring}
 use Rattle.packet_codec.specs.Packet.{kept}
 use Rattle.parts.specs.declared.frame.Frame.{Frame}
-use Rattle.parts.specs.declared.frame.Dispatch.TheVariants.{Nothing, Sent}
+use Rattle.std.specs.Prelude.{Option, None, Some}
+use Rattle.parts.specs.declared.list.Message.{Message}
 use Rattle.parts.specs.declared.request.Request.{Request}
 use Rattle.station.specs.Heard.{frame_rule}
 use Rattle.station.specs.Queue.{queue_rule}
@@ -25,8 +26,6 @@ use Rattle.wire_theorems.specs.Wire.{OnWire, Conveyed, on_frame, made_of}
 use Rattle.wire_theorems.proofs.Laws.Rings.{ring_made, ring_is}
 use Rattle.wire_theorems.proofs.Laws.Laid.{length_put}
 use Rattle.wire_theorems.proofs.Theorems.Conveyed.{sends_conveyed, heard_as_sent}
-use Rattle.station.specs.declared.station.Payload.{Payload}
-use Rattle.station.specs.declared.station.Payload.TheVariants.{NoPayload, Of}
 use Rattle.cell_theorems.specs.Cell.{Node, Transit, FrameCall}
 use Rattle.cell_theorems.proofs.Laws.Octets.{kept_octets, heard_octets, queued_octets}
 use Rattle.cell_theorems.proofs.Laws.Calls.{own_number, store_good, buffers_good, same_heard, refused_stays}
@@ -53,15 +52,15 @@ kept_long r old new e = go (eqb r 0)
     go true = e
     go false = refl
 
-heard_long : (store info : List ℕ) (d : Payload) → length (received store d info) ≡ length store
+heard_long : (store info : List ℕ) (d : Option Message) → length (received store d info) ≡ length store
 unfolding received
-heard_long store info NoPayload = refl
-heard_long store info (Of m) = length_put store _ info
+heard_long store info None = refl
+heard_long store info (Some m) = length_put store _ info
 
-queued_long : (store info : List ℕ) (d : Payload) → length (queued store d info) ≡ length store
+queued_long : (store info : List ℕ) (d : Option Message) → length (queued store d info) ≡ length store
 unfolding queued
-queued_long store info NoPayload = refl
-queued_long store info (Of m) = length_put store _ info
+queued_long store info None = refl
+queued_long store info (Some m) = length_put store _ info
 
 -- ---- records
 
@@ -113,13 +112,13 @@ module _
           ∙ ap (λ (a : Answer). a.station) given_is
 
       -- nobody who sends nothing tells a packet
-      pub frame_silent : rule.sent ≡ Nothing → get_or call.told 0 0 ≡ 0
+      pub frame_silent : rule.sent ≡ None → get_or call.told 0 0 ≡ 0
       unfolding sent_size
       frame_silent e =
           ap (λ (l : List ℕ). get_or l 0 0) (call.hears.sending.told_is ∙ kept_new call.number call.lent.told _ done)
           ∙ ap (sent_size (ring_in node.rec)) (ap (λ (a : Answer). a.sent) given_is ∙ e)
 
-      pub frame_conveys : (g : Frame) (on : ℕ) → rule.sent ≡ Sent g on → Conveyed (ring_of file) node.store g on call.out call.told
+      pub frame_conveys : (g : Frame) (on : ℕ) → rule.sent ≡ Some (g, on) → Conveyed (ring_of file) node.store g on call.out call.told
       frame_conveys g on e =
           let h = subst (λ (r : ℕ). Hearing node.rec node.store w.from w.to w.octets call.lent.out call.lent.told r after.rec after.store call.out call.told) done call.hears in
           subst (λ (r : List ℕ). Conveyed r node.store g on call.out call.told) (kept_ring k)

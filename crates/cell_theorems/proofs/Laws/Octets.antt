@@ -12,8 +12,8 @@ use Rattle.packet_codec.specs.declared.packet.Packet.{Packet}
 use Rattle.packet_codec.specs.declared.packet.Packet.TheVariants.{Token as TokenOf, Transmit as TransmitOf, Information as InformationOf}
 use Rattle.parts.specs.declared.frame.Frame.{Frame}
 use Rattle.parts.specs.declared.frame.Frame.TheVariants.{Token, Transmit, Information}
-use Rattle.station.specs.declared.station.Payload.{Payload}
-use Rattle.station.specs.declared.station.Payload.TheVariants.{NoPayload, Of}
+use Rattle.std.specs.Prelude.{Option, None, Some}
+use Rattle.parts.specs.declared.list.Message.{Message}
 use Rattle.station_theorems.proofs.Laws.Small.{pick_keeps}
 use Rattle.records.specs.Layout.{place_length}
 use Rattle.driver_buffers.specs.Places.{in_place, put_place, queued, received, carried_in}
@@ -78,10 +78,10 @@ put_octets : (store : List ℕ) (place : ℕ) (x : List ℕ) → Octets store �
 unfolding put_place
 put_octets store place x o k = pick_keeps Octets _ _ _ (laid_octets store (place * place_length) x o k) o
 
-pub queued_octets : (store : List ℕ) (d : Payload) (payload : List ℕ) → Octets store → Octets payload → Octets (queued store d payload)
+pub queued_octets : (store : List ℕ) (d : Option Message) (payload : List ℕ) → Octets store → Octets payload → Octets (queued store d payload)
 unfolding queued
-queued_octets store NoPayload payload o k = o
-queued_octets store (Of m) payload o k = put_octets store m.place payload o k
+queued_octets store None payload o k = o
+queued_octets store (Some m) payload o k = put_octets store m.place payload o k
 
 information_octets : (packet : List ℕ) (n : ℕ) → Octets packet → Octets (information_in packet n)
 unfolding information_in
@@ -91,10 +91,10 @@ information_octets packet n o = go (leb (8 + n) (length packet))
     go true = octets_take n (drop 8 packet) (octets_drop 8 packet o)
     go false = none_octets
 
-pub heard_octets : (store packet : List ℕ) (d : Payload) → Octets store → Octets packet → Octets (store_heard store packet d)
+pub heard_octets : (store packet : List ℕ) (d : Option Message) → Octets store → Octets packet → Octets (store_heard store packet d)
 unfolding received heard_information
-heard_octets store packet NoPayload o k = o
-heard_octets store packet (Of m) o k = put_octets store _ _ o (information_octets packet m.length k)
+heard_octets store packet None o k = o
+heard_octets store packet (Some m) o k = put_octets store _ _ o (information_octets packet m.length k)
 
 pub kept_octets : (r : ℕ) (old new : List ℕ) → Octets old → Octets new → Octets (kept r old new)
 kept_octets r old new o n = go (eqb r 0)

@@ -8,8 +8,8 @@ use Rattle.packet_codec.specs.Packet.{read_packet}
 use Rattle.packet_codec.specs.declared.reading.Read.TheVariants.{Good}
 use Rattle.parts.specs.declared.frame.Frame.{Frame}
 use Rattle.parts.specs.declared.frame.Frame.TheVariants.{Token, Transmit, Information}
-use Rattle.parts.specs.declared.frame.Dispatch.{Dispatch}
-use Rattle.parts.specs.declared.frame.Dispatch.TheVariants.{Sent}
+use Rattle.parts.specs.Frames.{Dispatch}
+use Rattle.std.specs.Prelude.{Some}
 use Rattle.driver_buffers.specs.Packets.{packet_of}
 use Rattle.driver_calls.specs.Calls.{ring_of}
 use Rattle.bench.specs.Rows.{row_on, rows_on, row_of as bench_row}
@@ -18,13 +18,13 @@ use Rattle.cell_theorems.specs.Cell.{Cell}
 use Rattle.cell_theorems.specs.AsBench.{row_read, row_of}
 use Rattle.cell_theorems.proofs.Laws.Matching.{Matches, to_same, from_is, to_is}
 
-row_is : (ring : List ℕ) (from to : ℕ) (f : Frame) → row_read from to (Good (packet_of ring f)) ≡ row_on from (Sent f to)
+row_is : (ring : List ℕ) (from to : ℕ) (f : Frame) → row_read from to (Good (packet_of ring f)) ≡ row_on from (Some (f, to))
 unfolding packet_of row_on bench_row
 row_is ring from to (Token t) = refl
 row_is ring from to (Transmit t) = refl
 row_is ring from to (Information i) = refl
 
-one : (from : ℕ) (d : Dispatch) (f : Frame) (to : ℕ) → d ≡ Sent f to → length (row_on from d) ≡ 1
+one : (from : ℕ) (d : Dispatch) (f : Frame) (to : ℕ) → d ≡ Some (f, to) → length (row_on from d) ≡ 1
 unfolding row_on
 one from d f to e = ap (λ (x : Dispatch). length (row_on from x)) e
 

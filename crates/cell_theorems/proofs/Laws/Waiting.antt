@@ -9,8 +9,7 @@ use borrow.Author.Tests.{eqb-true, eqb-false, eq-eqb, ne_eqb}
 use lib.ListN.{length, length-append}
 use Rattle.parts.specs.Choose.{pick}
 use Rattle.parts.specs.Messages.{all, flies, lowest_free}
-use Rattle.parts.specs.Frames.{flight}
-use Rattle.parts.specs.declared.frame.Dispatch.{Dispatch}
+use Rattle.parts.specs.Frames.{flight, Dispatch}
 use Rattle.station.specs.Stations.{awaited_of}
 use Rattle.station.specs.declared.station.Station.{Station}
 use Rattle.driver_calls.specs.Calls.{station_in}
@@ -20,7 +19,7 @@ use Rattle.bench.specs.Runs.{after_event}
 use Rattle.bench.specs.declared.ring.Bench.{Bench}
 use Rattle.bench.specs.declared.rows.Row.{Row}
 use Rattle.bench_theorems.specs.Counting.{steps_in}
-use Rattle.waiting.specs.Waiting.{Spot, spot_for, own, before, goes, OnTop, Until, StaysOnTop}
+use Rattle.waiting.specs.Waiting.{Spot, spot_for, own, before, goes, OnTop, Until, StaysOnTop, is_at}
 use Rattle.cell_theorems.specs.Cell.{Transit, Cell, members, address_at, Act, handed, asked, Run, done, hand_on, ask}
 use Rattle.cell_theorems.specs.AsBench.{events, rows, row_of}
 use Rattle.cell_theorems.specs.Waiting.{spot_in, own_in, before_in, goes_in, OnTopIn, StaysOnTopIn, steps_of}
@@ -53,7 +52,7 @@ until false true A B e f a = tt
 -- ---- whose the packet on the wire is
 
 abbrev Its : ℕ → Bool → Dispatch → Bool
-Its place t d = t && ((flight d).on && eqb (flight d).place place)
+Its place t d = t && is_at (flight d) place
 
 module _ (file : List ℕ) (x : Spot) (member : x.station < members file) where
   pub own_same : {c : Cell} {b : Bench} → Matches file c b → own_in file x c ≡ own x b.wire

@@ -5,6 +5,7 @@ use mathlib.Core.List.{List, [], ◌∷◌}
 use Prim.Native.Nat.{ℕ}
 use native.Mathlib.Omega.{arith}
 use lib.ListN.{length, get_or, replicate}
+use Rattle.std.specs.Prelude.{Option, None, Some}
 use Rattle.parts.proofs.Laws.Choose.{pick_true}
 use Rattle.parts.specs.Live.{seats}
 use Rattle.parts.specs.declared.request.Request.{Request}
@@ -23,24 +24,24 @@ use Rattle.day.specs.declared.wire.Flying.{Flying}
 use Rattle.day.specs.declared.wire.Frames.{Frames}
 use Rattle.day.specs.declared.calls.Call.{Call}
 use Rattle.day.specs.declared.calls.Answered.{Answered}
-use Rattle.day.specs.declared.calls.Call.TheVariants.{NoCall, TimerCall, QueueCall}
+use Rattle.day.specs.declared.calls.Call.TheVariants.{TimerCall, QueueCall}
 
 -- ---- a call
 
-module _ (s : Station) (c : Call) where
-  pub call_none : c ≡ NoCall → called_by s c ≡ refused_by s 0
+module _ (s : Station) (c : Option Call) where
+  pub call_none : c ≡ None → called_by s c ≡ refused_by s 0
   unfolding called_by
   call_none e = rw e
 
-  pub call_timer : (room : Bool) → c ≡ TimerCall room → called_by s c ≡ timed s room (timer_rule s)
+  pub call_timer : (room : Bool) → c ≡ Some (TimerCall room) → called_by s c ≡ timed s room (timer_rule s)
   unfolding called_by
   call_timer room e = rw e
 
-  pub call_queue : (q : Request) → c ≡ QueueCall q → called_by s c ≡ refused_by (queue_rule s q).station (queue_rule s q).number
+  pub call_queue : (q : Request) → c ≡ Some (QueueCall q) → called_by s c ≡ refused_by (queue_rule s q).station (queue_rule s q).number
   unfolding called_by
   call_queue q e = rw e
 
-  pub call_timed : (room : Bool) (a : Answer) (r : Answered) → c ≡ TimerCall room → a ≡ timer_rule s → r ≡ timed s room a → r ≡ called_by s c
+  pub call_timed : (room : Bool) (a : Answer) (r : Answered) → c ≡ Some (TimerCall room) → a ≡ timer_rule s → r ≡ timed s room a → r ≡ called_by s c
   call_timed room a r e x y = y ∙ ap (timed s room) x ∙ sym (call_timer room e)
 
 -- ---- what is asked for

@@ -12,9 +12,7 @@ use Rattle.parts.specs.Choose.{pick}
 use Rattle.parts.specs.Live.{live_at, seats}
 use Rattle.parts.specs.Frames.{failing_of}
 use Rattle.parts.specs.declared.frame.Frame.{Frame}
-use Rattle.parts.specs.declared.frame.Dispatch.TheVariants.{Nothing}
-use Rattle.parts.specs.declared.frame.Whom.{Whom}
-use Rattle.parts.specs.declared.frame.Whom.TheVariants.{Nobody, Member}
+use Rattle.std.specs.Prelude.{Option, None, Some}
 use Rattle.parts.specs.declared.live.Live.{Live}
 use Rattle.parts.proofs.Laws.Choose.{pick_true, pick_false}
 use Rattle.parts.proofs.Laws.Live.{seats_most}
@@ -58,10 +56,10 @@ pub unstruck_all : (n : ℕ) (hs : ℕ → Bool) (f : Frame) (from to : ℕ) →
 unfolding strikes_text struck_text
 unstruck_all n hs f from to e p [] = refl
 unstruck_all n hs f from to e p (s ∷ ss) =
-    ap (λ (w : Whom). struck_text w p ++ strikes_text n hs f from to (suc p) ss) (ap (λ (a : Answer). a.struck) (handed_nobody n hs f from to p s (e p)))
+    ap (λ (w : Option ℕ). struck_text w p ++ strikes_text n hs f from to (suc p) ss) (ap (λ (a : Answer). a.struck) (handed_nobody n hs f from to p s (e p)))
     ∙ unstruck_all n hs f from to e (suc p) ss
 
-pub unsent : (n : ℕ) (hs : ℕ → Bool) (f : Frame) (from to p : ℕ) (s : Station) → pick (ltb p n) (hs p) false ≡ false → (handed n hs f from to p s).sent ≡ Nothing
+pub unsent : (n : ℕ) (hs : ℕ → Bool) (f : Frame) (from to p : ℕ) (s : Station) → pick (ltb p n) (hs p) false ≡ false → (handed n hs f from to p s).sent ≡ None
 unsent n hs f from to p s e = ap (λ (a : Answer). a.sent) (handed_nobody n hs f from to p s e)
 
 pub none_at_all : (hs : ℕ → Bool) (p : ℕ) → pick (ltb p 0) (hs p) false ≡ false
@@ -104,22 +102,22 @@ marked_at none ss h size (suc k) q less most = go (eqb q k) refl (λ (z : q < k)
 -- ---- their lines
 
 -- a station strikes the one that fails, or nobody
-newly_line : (t : Bool) (p q : ℕ) → struck_text (pick t (Member p) Nobody) q ≡ pick (is_member (pick t (Member p) Nobody)) (struck_text (Member p) q) []
+newly_line : (t : Bool) (p q : ℕ) → struck_text (pick t (Some p) None) q ≡ pick (is_member (pick t (Some p) None)) (struck_text (Some p) q) []
 unfolding struck_text pick
 newly_line true p q = refl
 newly_line false p q = refl
 
-struck_lines : (w : Whom) (q : ℕ) (b : Bool) (l : Live) → struck_text (pick b (newly_of l w) Nobody) q ≡ pick (is_member (pick b (newly_of l w) Nobody)) (struck_text w q) []
+struck_lines : (w : Option ℕ) (q : ℕ) (b : Bool) (l : Live) → struck_text (pick b (newly_of l w) None) q ≡ pick (is_member (pick b (newly_of l w) None)) (struck_text w q) []
 unfolding struck_text pick newly
-struck_lines Nobody q true l = refl
-struck_lines Nobody q false l = refl
-struck_lines (Member p) q true l = newly_line (live_at l p) p q
-struck_lines (Member p) q false l = refl
+struck_lines None q true l = refl
+struck_lines None q false l = refl
+struck_lines (Some p) q true l = newly_line (live_at l p) p q
+struck_lines (Some p) q false l = refl
 
-struck_line : (w x : Whom) (q : ℕ) (b : Bool) (l : Live) → x ≡ pick b (newly_of l w) Nobody → struck_text x q ≡ pick (is_member x) (struck_text w q) []
-struck_line w x q b l e = ap (λ (y : Whom). struck_text y q) e ∙ struck_lines w q b l ∙ sym (ap (λ (y : Whom). pick (is_member y) (struck_text w q) []) e)
+struck_line : (w x : Option ℕ) (q : ℕ) (b : Bool) (l : Live) → x ≡ pick b (newly_of l w) None → struck_text x q ≡ pick (is_member x) (struck_text w q) []
+struck_line w x q b l e = ap (λ (y : Option ℕ). struck_text y q) e ∙ struck_lines w q b l ∙ sym (ap (λ (y : Option ℕ). pick (is_member y) (struck_text w q) []) e)
 
-none_line : (b : Bool) (q : ℕ) → pick b (struck_text Nobody q) [] ≡ []
+none_line : (b : Bool) (q : ℕ) → pick b (struck_text None q) [] ≡ []
 unfolding struck_text pick
 none_line true q = refl
 none_line false q = refl
@@ -142,8 +140,8 @@ module _ (h : Handing) where
   unfolding strikes_by
   line_at p s = struck_line (failing_of h.frame) _ p (heeds s p h) s.live (handed_struck s p h)
 
-  quiet_line : failing_of h.frame ≡ Nobody → (p : ℕ) (s : Station) → line_of p s ≡ []
-  quiet_line e p s = line_at p s ∙ ap (λ (w : Whom). pick (strikes_by s p h) (struck_text w p) []) e ∙ none_line (strikes_by s p h) p
+  quiet_line : failing_of h.frame ≡ None → (p : ℕ) (s : Station) → line_of p s ≡ []
+  quiet_line e p s = line_at p s ∙ ap (λ (w : Option ℕ). pick (strikes_by s p h) (struck_text w p) []) e ∙ none_line (strikes_by s p h) p
 
   outside_line : (p : ℕ) (s : Station) → h.n ≤ p → line_of p s ≡ []
   unfolding struck_text
@@ -168,9 +166,9 @@ module _ (h : Handing) where
         ∙ ap (λ (x : List ℕ). x ++ lines_of (suc p) (drop (suc p) ss)) (line_at p (get_or ss p nobody) ∙ sym (ap (λ (b : Bool). pick b (struck_text (failing_of h.frame) p) []) mark))
         ∙ ap (λ (x : List ℕ). mark_text l (failing_of h.frame) p ++ x) (lines_marked k (suc p) (omega arith))
 
-nobody_fails : (w : Whom) → is_nobody w ≡ true → w ≡ Nobody
-nobody_fails Nobody e = refl
-nobody_fails (Member p) e = absurd (false≢true e)
+nobody_fails : (w : Option ℕ) → is_nobody w ≡ true → w ≡ None
+nobody_fails None e = refl
+nobody_fails (Some p) e = absurd (false≢true e)
 
 -- the strikers' lines are those of the definition
 pub strikers_lines : (h : Handing) (ss : List Station) → length ss ≡ 64 → h.m ≡ seats h.n → h.quiet ≡ is_quiet h.frame

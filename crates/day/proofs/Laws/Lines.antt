@@ -11,11 +11,9 @@ use Rattle.codec.specs.Octets.{laid}
 use Rattle.codec.proofs.Laws.Octets.{length_laid, laid_none}
 use Rattle.parts.specs.Choose.{pick}
 use Rattle.parts.specs.Live.{live_at}
-use Rattle.parts.specs.declared.frame.Dispatch.{Dispatch}
-use Rattle.parts.specs.declared.frame.Dispatch.TheVariants.{Nothing, Sent}
+use Rattle.parts.specs.Frames.{Dispatch}
+use Rattle.std.specs.Prelude.{Option, None, Some}
 use Rattle.bench.specs.Rows.{row_of, row_on}
-use Rattle.parts.specs.declared.frame.Whom.{Whom}
-use Rattle.parts.specs.declared.frame.Whom.TheVariants.{Nobody, Member}
 use Rattle.parts.specs.declared.live.Live.{Live}
 use Rattle.parts.proofs.Laws.Choose.{pick_true, pick_false}
 use Rattle.bench.specs.Text.{space, line_feed, text, cell, row_text, rows_text}
@@ -64,42 +62,42 @@ unfolding strike_text
 strike_short p q =
     omega (arith, length-append (text "struck ") (cell p space ++ (text "by " ++ cell q line_feed)), length-append (cell p space) (text "by " ++ cell q line_feed), length-append (text "by ") (cell q line_feed), cell_short p space, cell_short q line_feed)
 
-pub struck_short : (w : Whom) (q : ℕ) → length (struck_text w q) ≤ 22
+pub struck_short : (w : Option ℕ) (q : ℕ) → length (struck_text w q) ≤ 22
 unfolding struck_text
-struck_short Nobody q = omega arith
-struck_short (Member p) q = strike_short p q
+struck_short None q = omega arith
+struck_short (Some p) q = strike_short p q
 
 -- nothing, or a strike
-pub struck_none : (l : List ℕ) (at : ℕ) (w : Whom) (q : ℕ) → w ≡ Nobody → (l ≡ laid l at (struck_text w q)) × (at ≡ at + length (struck_text w q))
+pub struck_none : (l : List ℕ) (at : ℕ) (w : Option ℕ) (q : ℕ) → w ≡ None → (l ≡ laid l at (struck_text w q)) × (at ≡ at + length (struck_text w q))
 unfolding struck_text
 struck_none l at w q e = rw e (sym (laid_none l at), omega arith)
 
-pub struck_one : (l l₁ : List ℕ) (at r p q : ℕ) (w : Whom) → w ≡ Member p → (l₁ ≡ laid l at (strike_text p q)) × (r ≡ at + length (strike_text p q))
+pub struck_one : (l l₁ : List ℕ) (at r p q : ℕ) (w : Option ℕ) → w ≡ Some p → (l₁ ≡ laid l at (strike_text p q)) × (r ≡ at + length (strike_text p q))
     → (l₁ ≡ laid l at (struck_text w q)) × (r ≡ at + length (struck_text w q))
 unfolding struck_text
 struck_one l l₁ at r p q w e h = rw e h
 
 -- ---- those that are marked
 
-pub mark_on : (l l₁ : List ℕ) (at r q : ℕ) (v : Live) (w : Whom) → live_at v q ≡ true → (l₁ ≡ laid l at (struck_text w q)) × (r ≡ at + length (struck_text w q))
+pub mark_on : (l l₁ : List ℕ) (at r q : ℕ) (v : Live) (w : Option ℕ) → live_at v q ≡ true → (l₁ ≡ laid l at (struck_text w q)) × (r ≡ at + length (struck_text w q))
     → (l₁ ≡ laid l at (mark_text v w q)) × (r ≡ at + length (mark_text v w q))
 mark_on l l₁ at r q v w e h =
     let z : mark_text v w q ≡ struck_text w q = pick_true _ _ e in
     rw z h
 
-pub mark_off : (l : List ℕ) (at q : ℕ) (v : Live) (w : Whom) → live_at v q ≡ false → (l ≡ laid l at (mark_text v w q)) × (at ≡ at + length (mark_text v w q))
+pub mark_off : (l : List ℕ) (at q : ℕ) (v : Live) (w : Option ℕ) → live_at v q ≡ false → (l ≡ laid l at (mark_text v w q)) × (at ≡ at + length (mark_text v w q))
 mark_off l at q v w e =
     let z : mark_text v w q ≡ [] = pick_false _ _ e in
     rw z (sym (laid_none l at), omega arith)
 
-pub mark_short : (v : Live) (w : Whom) (q : ℕ) → length (mark_text v w q) ≤ 22
+pub mark_short : (v : Live) (w : Option ℕ) (q : ℕ) → length (mark_text v w q) ≤ 22
 mark_short v w q = go (live_at v q) refl
   where
     go : (b : Bool) → live_at v q ≡ b → length (mark_text v w q) ≤ 22
     go true e = omega (arith, struck_short w q, ap length (pick_true (struck_text w q) [] e))
     go false e = let z : length (mark_text v w q) ≡ 0 = ap length (pick_false (struck_text w q) [] e) in omega arith
 
-module _ (v : Live) (w : Whom) where
+module _ (v : Live) (w : Option ℕ) where
   marks_none : (p : ℕ) → marks_text v w 0 p ≡ []
   unfolding marks_text
   marks_none p = refl
@@ -140,8 +138,8 @@ calls_laid l l₁ l₂ x y at a r h p q = laid_both l l₁ l₂ x y at a r h p.1
 
 pub row_most : (from : ℕ) (d : Dispatch) → length (rows_text (row_on from d)) ≤ 32
 unfolding row_on rows_text
-row_most from Nothing = omega arith
-row_most from (Sent frame to) = omega (arith, ap length (append-nil (row_text (row_of from frame to))), row_short (row_of from frame to))
+row_most from None = omega arith
+row_most from (Some (frame, to)) = omega (arith, ap length (append-nil (row_text (row_of from frame to))), row_short (row_of from frame to))
 
 pub span_most : (h : Handing) → span h ≤ h.m
 unfolding span
@@ -152,6 +150,6 @@ span_most h = go h.quiet refl
     go false e = let z : pick h.quiet 0 h.m ≡ h.m = pick_false 0 h.m e in omega arith
 
 -- the same marks
-pub marks_same : (v : Live) (w w' : Whom) (m m' : ℕ) → w ≡ w' → m ≡ m' → (l l₁ : List ℕ) (at a : ℕ) → (l₁ ≡ laid l at (marks_text v w m 0)) × (a ≡ at + length (marks_text v w m 0))
+pub marks_same : (v : Live) (w w' : Option ℕ) (m m' : ℕ) → w ≡ w' → m ≡ m' → (l l₁ : List ℕ) (at a : ℕ) → (l₁ ≡ laid l at (marks_text v w m 0)) × (a ≡ at + length (marks_text v w m 0))
     → (l₁ ≡ laid l at (marks_text v w' m' 0)) × (a ≡ at + length (marks_text v w' m' 0))
 marks_same v w w' m m' e f l l₁ at a h = rw (← e, ← f) h

@@ -9,12 +9,11 @@ use Rattle.parts.specs.Live.{live_at}
 use Rattle.parts.specs.Moves.{move_of, runs}
 use Rattle.parts.specs.Frames.{number_of, flight, failing_of}
 use Rattle.parts.specs.declared.frame.Frame.{Frame}
-use Rattle.parts.specs.declared.frame.Whom.{Whom}
-use Rattle.parts.specs.declared.frame.Whom.TheVariants.{Nobody, Member}
+use Rattle.std.specs.Prelude.{Option, None, Some}
 use Rattle.parts.specs.declared.live.Live.{Live}
 use Rattle.parts.specs.declared.moves.Event.TheVariants.{Heard}
 use Rattle.parts.specs.declared.moves.State.TheVariants.{Idle, Alone, Excluded}
-use Rattle.parts.proofs.Laws.Choose.{pick_true, pick_false}
+use Rattle.parts.proofs.Laws.Choose.{pick_true, pick_false, map_or_keeps}
 use Rattle.parts.specs.Live.{newly}
 use Rattle.station.specs.Stations.{state_of, awaited_of, quiet, alone, answered, moved, unless}
 use Rattle.station.specs.Strike.{Struck, strike, leave, nothing_gone, give_up_to, told, stopped}
@@ -27,16 +26,16 @@ use Rattle.bench.specs.declared.table.Handing.{Handing}
 use Rattle.day.specs.Strikes.{heeds, is_member, strikes_by}
 
 -- whom a station strikes newly where `w` fails
-abbrev pub newly_of : Live → Whom → Whom
-newly_of l Nobody = Nobody
-newly_of l (Member p) = newly l p
+abbrev pub newly_of : Live → Option ℕ → Option ℕ
+newly_of l None = None
+newly_of l (Some p) = newly l p
 
-answer_either : (b : Bool) (x y : Answer) (w : Whom) → x.struck ≡ w → y.struck ≡ w → (pick b x y).struck ≡ w
+answer_either : (b : Bool) (x y : Answer) (w : Option ℕ) → x.struck ≡ w → y.struck ≡ w → (pick b x y).struck ≡ w
 unfolding pick
 answer_either true x y w p q = p
 answer_either false x y w p q = q
 
-struck_either : (b : Bool) (x y : Struck) (w : Whom) → x.struck ≡ w → y.struck ≡ w → (pick b x y).struck ≡ w
+struck_either : (b : Bool) (x y : Struck) (w : Option ℕ) → x.struck ≡ w → y.struck ≡ w → (pick b x y).struck ≡ w
 unfolding pick
 struck_either true x y w p q = p
 struck_either false x y w p q = q
@@ -51,13 +50,13 @@ acknowledged_live : (s : Station) (from k : ℕ) → (acknowledge s from k).live
 unfolding acknowledge landed
 acknowledged_live s from k =
     live_either (acknowledged s from k) (quiet (landed s) Idle) s s.live
-    (live_either (flight (awaited_of s)).on (leave s (flight (awaited_of s)).place) s s.live refl refl)
+    (map_or_keeps (λ (t : Station). t.live ≡ s.live) (leave s) (flight (awaited_of s)) s (λ p. refl) refl)
     refl
 
-failed_struck : (s : Station) (w : Whom) → (failed s w).struck ≡ newly_of s.live w
+failed_struck : (s : Station) (w : Option ℕ) → (failed s w).struck ≡ newly_of s.live w
 unfolding failed strike_heard strike_other
-failed_struck s Nobody = refl
-failed_struck s (Member p) =
+failed_struck s None = refl
+failed_struck s (Some p) =
     struck_either (eqb p s.own) (stopped (nothing_gone (strike s p)) (newly s.live p) Excluded) (strike_other s p (newly s.live p)) (newly s.live p) refl
     (struck_either (alone (strike s p)) (stopped (give_up_to (strike s p) p) (newly s.live p) Alone) (told (give_up_to (strike s p) p) (newly s.live p)) (newly s.live p) refl refl)
 
@@ -73,7 +72,7 @@ heard_struck s f from to =
 -- ---- what is handed round
 
 -- the tests, as they stand in the two definitions
-asked_alike : (a b m c : Bool) (w : Whom) → pick (pick a b false) (pick m (pick c w Nobody) Nobody) Nobody ≡ pick (pick (not a) false (pick b (pick m c false) false)) w Nobody
+asked_alike : (a b m c : Bool) (w : Option ℕ) → pick (pick a b false) (pick m (pick c w None) None) None ≡ pick (pick (not a) false (pick b (pick m c false) false)) w None
 unfolding pick
 asked_alike false b m c w = refl
 asked_alike true false m c w = refl
@@ -93,35 +92,35 @@ unfolding pick
 struck_in true x y = refl
 struck_in false x y = refl
 
-none_either : (b : Bool) → is_member (pick b Nobody Nobody) ≡ false
+none_either : (b : Bool) → is_member (pick b None None) ≡ false
 unfolding pick
 none_either true = refl
 none_either false = refl
 
-member_pick : (b : Bool) (q : ℕ) → is_member (pick b (Member q) Nobody) ≡ b
+member_pick : (b : Bool) (q : ℕ) → is_member (pick b (Some q) None) ≡ b
 unfolding pick
 member_pick true q = refl
 member_pick false q = refl
 
 module _ (s : Station) (p : ℕ) (h : Handing) where
-  pub handed_struck : (handed h.n (hears h) h.frame h.from h.to p s).struck ≡ pick (heeds s p h) (newly_of s.live (failing_of h.frame)) Nobody
+  pub handed_struck : (handed h.n (hears h) h.frame h.from h.to p s).struck ≡ pick (heeds s p h) (newly_of s.live (failing_of h.frame)) None
   unfolding handed frame_rule moved unless heeds
   handed_struck =
       let m : Bool = eqb (move_of (state_of s) Heard) runs in
       let c : Bool = eqb (checks s h.from h.to) 0 in
       let inner : Answer = pick c (heard s h.frame h.from h.to) (answered s (checks s h.from h.to)) in
-      let w : Whom = newly_of s.live (failing_of h.frame) in
+      let w : (Option ℕ) = newly_of s.live (failing_of h.frame) in
       struck_in (pick (ltb p h.n) (hears h p) false) (frame_rule s h.frame h.from h.to) (answered s 0)
-      ∙ ap (λ (u : Whom). pick (pick (ltb p h.n) (hears h p) false) u Nobody)
+      ∙ ap (λ (u : Option ℕ). pick (pick (ltb p h.n) (hears h p) false) u None)
       (struck_in m inner (answered s (move_of (state_of s) Heard))
-      ∙ ap (λ (u : Whom). pick m u Nobody) (struck_in c (heard s h.frame h.from h.to) (answered s (checks s h.from h.to)) ∙ ap (λ (u : Whom). pick c u Nobody) (heard_struck s h.frame h.from h.to)))
+      ∙ ap (λ (u : Option ℕ). pick m u None) (struck_in c (heard s h.frame h.from h.to) (answered s (checks s h.from h.to)) ∙ ap (λ (u : Option ℕ). pick c u None) (heard_struck s h.frame h.from h.to)))
       ∙ asked_alike (ltb p h.n) (hears h p) m c w
-      ∙ ap (λ (t : Bool). pick (pick t false (pick (hears h p) (pick m c false) false)) w Nobody) (sym (not_less p h.n))
+      ∙ ap (λ (t : Bool). pick (pick t false (pick (hears h p) (pick m c false) false)) w None) (sym (not_less p h.n))
 
   -- nobody fails
-  pub strikes_none : failing_of h.frame ≡ Nobody → false ≡ strikes_by s p h
+  pub strikes_none : failing_of h.frame ≡ None → false ≡ strikes_by s p h
   unfolding strikes_by
-  strikes_none e = sym (ap is_member handed_struck ∙ ap (λ (w : Whom). is_member (pick (heeds s p h) (newly_of s.live w) Nobody)) e ∙ none_either (heeds s p h))
+  strikes_none e = sym (ap is_member handed_struck ∙ ap (λ (w : Option ℕ). is_member (pick (heeds s p h) (newly_of s.live w) None)) e ∙ none_either (heeds s p h))
 
   -- the frame is not heeded
   pub strikes_not : heeds s p h ≡ false → false ≡ strikes_by s p h
@@ -129,7 +128,7 @@ module _ (s : Station) (p : ℕ) (h : Handing) where
   strikes_not e = sym (ap is_member handed_struck ∙ ap is_member (pick_false _ _ e))
 
   -- else whoever was live
-  pub strikes_live : (q : ℕ) → failing_of h.frame ≡ Member q → heeds s p h ≡ true → live_at s.live q ≡ strikes_by s p h
+  pub strikes_live : (q : ℕ) → failing_of h.frame ≡ Some q → heeds s p h ≡ true → live_at s.live q ≡ strikes_by s p h
   unfolding strikes_by newly
   strikes_live q e t =
-      sym (ap is_member handed_struck ∙ ap is_member (pick_true (newly_of s.live (failing_of h.frame)) Nobody t) ∙ ap (λ (w : Whom). is_member (newly_of s.live w)) e ∙ member_pick (live_at s.live q) q)
+      sym (ap is_member handed_struck ∙ ap is_member (pick_true (newly_of s.live (failing_of h.frame)) None t) ∙ ap (λ (w : Option ℕ). is_member (newly_of s.live w)) e ∙ member_pick (live_at s.live q) q)

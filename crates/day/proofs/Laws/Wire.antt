@@ -10,8 +10,8 @@ use lib.ListN.{get_or, take, drop, set, length, length-append}
 use lib.Seq.{length-take-le, take_all, take-suc, take-suc-set, take-append-le, drop-append-le, get_or-take}
 use borrow.Author.Tests.{lt-ltb, le-ltb, ltb-true, ltb-false}
 use Rattle.parts.specs.declared.frame.Frame.{Frame}
-use Rattle.parts.specs.declared.frame.Dispatch.{Dispatch}
-use Rattle.parts.specs.declared.frame.Dispatch.TheVariants.{Nothing, Sent}
+use Rattle.parts.specs.Frames.{Dispatch}
+use Rattle.std.specs.Prelude.{None, Some}
 use Rattle.parts.proofs.Laws.Choose.{pick_true, pick_false}
 use Rattle.day.specs.Day.{most_frames, joining}
 use Rattle.day.specs.Wire.{flying_of, pushed}
@@ -74,11 +74,11 @@ module _ (w : Frames) (full : length w.items ≡ 64) where
           let l : length (flying_of w) ≡ 64 = flying_full h in
           pushed_full f h ∙ sym (take-append-le 64 (flying_of w) (f ∷ []) (omega arith) ∙ flying_all)
 
-  pub join_none : (p : ℕ) (d : Dispatch) → d ≡ Nothing → flying_of w ≡ take most_frames (flying_of w ++ joining p d)
+  pub join_none : (p : ℕ) (d : Dispatch) → d ≡ None → flying_of w ≡ take most_frames (flying_of w ++ joining p d)
   unfolding joining
   join_none p d e = rw e (sym (ap (take most_frames) (append-nil (flying_of w)) ∙ flying_all))
 
-  pub join_one : (r : Frames) (p : ℕ) (d : Dispatch) (frame : Frame) (to : ℕ) → d ≡ Sent frame to → r ≡ pushed w (record { from = p; frame = frame; to = to })
+  pub join_one : (r : Frames) (p : ℕ) (d : Dispatch) (frame : Frame) (to : ℕ) → d ≡ Some (frame, to) → r ≡ pushed w (record { from = p; frame = frame; to = to })
       → flying_of r ≡ take most_frames (flying_of w ++ joining p d)
   unfolding joining
   join_one r p d frame to e x = rw e (ap flying_of x ∙ flying_pushed (record { from = p; frame = frame; to = to }))

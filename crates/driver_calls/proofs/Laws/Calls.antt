@@ -15,16 +15,14 @@ use Rattle.codec.proofs.Laws.Ring.{few_members, read_zero, read_good, length_add
 use Rattle.parts.specs.Choose.{pick}
 use Rattle.parts.specs.Messages.{none}
 use Rattle.parts.proofs.Laws.Choose.{pick_true, pick_false}
-use Rattle.parts.specs.declared.frame.Whom.TheVariants.{Nobody}
+use Rattle.std.specs.Prelude.{Option, None, Some}
+use Rattle.parts.specs.declared.list.Message.{Message}
 use Rattle.station.specs.Stations.{with_turn}
 use Rattle.station.specs.Deeds.{carried_out, turn_alone, done_by}
 use Rattle.station.proofs.Laws.Decide.{Decides, done_so}
 use Rattle.station.specs.declared.rules.deeds.Verdict.{Verdict}
-use Rattle.station.specs.declared.station.Payload.{Payload}
-use Rattle.station.specs.declared.station.Payload.TheVariants.{NoPayload}
 use Rattle.parts.specs.declared.frame.Frame.TheVariants.{Token, Transmit, Information}
-use Rattle.parts.specs.declared.frame.Dispatch.{Dispatch}
-use Rattle.parts.specs.declared.frame.Dispatch.TheVariants.{Nothing, Sent}
+use Rattle.parts.specs.Frames.{Dispatch}
 use Rattle.station.specs.declared.station.Station.{Station}
 use Rattle.station.specs.declared.station.Answer.{Answer}
 use Rattle.records.specs.Layout.{own_at, place_length, record_length, store_length}
@@ -78,10 +76,10 @@ in_place_short store place n = go (fits_place (length store) place n) refl
 
 carried_short : (store : List ℕ) (d : Dispatch) → length (information_of store d) ≤ place_length
 unfolding information_of carried_in
-carried_short store Nothing = zero-le
-carried_short store (Sent (Token t) to) = zero-le
-carried_short store (Sent (Transmit t) to) = zero-le
-carried_short store (Sent (Information i) to) = in_place_short store i.place i.length
+carried_short store None = zero-le
+carried_short store (Some (Token t, to)) = zero-le
+carried_short store (Some (Transmit t, to)) = zero-le
+carried_short store (Some (Information i, to)) = in_place_short store i.place i.length
 
 pub information_short : (store carried : List ℕ) (d : Dispatch) → carried ≡ information_of store d → length carried ≤ place_length
 information_short store carried d e = rw e (carried_short store d)
@@ -156,21 +154,21 @@ module _ (s : Station) (v : Verdict) where
 
   module _ (ring info rec out told rec' out' told' : List ℕ) where
     -- the payload's message, and what is left
-    abbrev Settled : Payload → Answer → Type 0
+    abbrev Settled : Option Message → Answer → Type 0
     Settled p a = (p ≡ a.payload) × Left a ring info rec out told rec' out' told'
 
     -- the turn alone is written, where the record is the station's
     pub turn_settled : Octets rec → Holds rec s → v.alone ≡ true
-        → (rec' ≡ laid rec own_at (turn_octets s.own v.turn)) × ((out' ≡ laid out 0 (sent_octets ring v.sent info)) × (told' ≡ laid told 0 (told_of ring v.sent Nobody none)))
-        → Settled NoPayload (done_by s v)
+        → (rec' ≡ laid rec own_at (turn_octets s.own v.turn)) × ((out' ≡ laid out 0 (sent_octets ring v.sent info)) × (told' ≡ laid told 0 (told_of ring v.sent None none)))
+        → Settled None (done_by s v)
     unfolding done_by
     turn_settled o h e w =
         let written : laid rec own_at (turn_octets s.own v.turn) ≡ record_with rec (with_turn s v.turn) =
         subst (λ (x : Station). laid rec own_at (turn_octets x.own v.turn) ≡ record_with rec (with_turn x v.turn)) (sym h.station) (turn_alone_written rec o h.whole v.turn) in
-        let left : Settled NoPayload (turn_alone s v) = (refl, record { record_is = w.0 ∙ written; out_is = w.1.0; told_is = w.1.1 }) in
-        subst (Settled NoPayload) (sym (pick_true _ _ e)) left
+        let left : Settled None (turn_alone s v) = (refl, record { record_is = w.0 ∙ written; out_is = w.1.0; told_is = w.1.1 }) in
+        subst (Settled None) (sym (pick_true _ _ e)) left
 
-    pub all_settled : (p : Payload) → v.alone ≡ false → Settled p (carried_out s v) → Settled p (done_by s v)
+    pub all_settled : (p : Option Message) → v.alone ≡ false → Settled p (carried_out s v) → Settled p (done_by s v)
     unfolding done_by
     all_settled p e left = subst (Settled p) (sym (pick_false _ _ e)) left
 

@@ -20,15 +20,13 @@ use Rattle.parts.specs.declared.list.Message.{Message}
 use Rattle.parts.specs.declared.frame.Frame.{Frame}
 use Rattle.parts.specs.declared.moves.Event.TheVariants.{Heard}
 use Rattle.station.specs.declared.station.Station.{Station}
-use Rattle.station.specs.declared.station.Payload.{Payload}
-use Rattle.station.specs.declared.station.Payload.TheVariants.{Of}
+use Rattle.std.specs.Prelude.{Option, None, Some}
 use Rattle.station.specs.declared.station.Answer.{Answer}
 use Rattle.parts.specs.Choose.{pick}
 use Rattle.parts.proofs.Laws.Choose.{pick_true, pick_false}
 use Rattle.station.specs.Deeds.{refused, done_by}
 use Rattle.station.specs.Decide.{decided}
 use Rattle.station.specs.declared.rules.deeds.Verdict.{Verdict}
-use Rattle.parts.specs.declared.frame.Dispatch.TheVariants.{Nothing}
 use Rattle.station.proofs.Laws.Deeds.{turned_alone}
 use Rattle.station.proofs.Laws.Decide.{Decides, frame_so, done_so}
 use Rattle.records.proofs.Laws.Load.{Held}
@@ -71,7 +69,7 @@ module _ (s : Station) (ring : List ℕ) (from to : ℕ) (packet : List ℕ) {m 
           rw (h, sender, addressee) (ap (decided_read s ring (position ring from) (position ring to)) (sym e) ∙ read_then)
 
 refused_so : (s : Station) (n : ℕ) → Decides s (answered s n) (refused s.turn n)
-refused_so s n = record { carried = turned_alone s n s.turn Nothing; honest = refl }
+refused_so s n = record { carried = turned_alone s n s.turn None; honest = refl }
 
 -- once it is done, it is what the station answers
 packet_so : (s : Station) (ring : List ℕ) (from to : ℕ) (packet : List ℕ) → Decides s (packet_rule s ring from to packet) (decided_packet s ring from to packet)
@@ -94,7 +92,7 @@ packet_so s ring from to packet = go (eqb (move_of (state_of s) Heard) runs) (eq
 
 -- ---- the information of a heard frame whose message is stored
 
-pub information_heard : (packet x : List ℕ) (p : Payload) (m : Message) → p ≡ Of m → x ≡ information_in packet m.length → x ≡ heard_information packet p
+pub information_heard : (packet x : List ℕ) (p : Option Message) (m : Message) → p ≡ Some m → x ≡ information_in packet m.length → x ≡ heard_information packet p
 unfolding heard_information
 information_heard packet x p m stored e = e ∙ ap (heard_information packet) (sym stored)
 
@@ -128,7 +126,7 @@ module _ {rec addresses store packet out told ms : List ℕ} {n from to : ℕ} {
     heard_refused k = not_heard (refused_by good h.ok (done_by st v) (done_packet h packet ms from to v seats asked) (done_number st v) k)
 
     -- composed from the store as it was, with the members anew; then the heard payload is stored
-    pub heard_done : v.number ≡ 0 → (again carried information rec' store' out' told' : List ℕ) (p : Payload)
+    pub heard_done : v.number ≡ 0 → (again carried information rec' store' out' told' : List ℕ) (p : Option Message)
         → again ≡ take n addresses
         → carried ≡ information_of store v.sent
         → (p ≡ (done_by st v).payload) × Left (done_by st v) again carried rec out told rec' out' told'
@@ -146,5 +144,5 @@ module _ {rec addresses store packet out told ms : List ℕ} {n from to : ℕ} {
           store_is =
               es
               ∙ ap (received store p) ei
-              ∙ ap (λ (q : Payload). received store q (heard_information packet q)) (settled.0 ∙ ap (λ (x : Answer). x.payload) answers);
+              ∙ ap (λ (q : Option Message). received store q (heard_information packet q)) (settled.0 ∙ ap (λ (x : Answer). x.payload) answers);
         }

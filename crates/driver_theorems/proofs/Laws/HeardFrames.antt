@@ -20,7 +20,7 @@ use Rattle.packet_codec.proofs.Laws.Packet.{write_apart}
 use Rattle.packet_codec.proofs.Theorems.WriteRead.{write_after_read}
 use Rattle.parts.specs.Choose.{pick}
 use Rattle.parts.specs.Frames.{fit, member_or_nobody}
-use Rattle.parts.specs.declared.frame.Whom.TheVariants.{Nobody, Member}
+use Rattle.std.specs.Prelude.{None, Some}
 use Rattle.station_theorems.specs.Small.{SmallFrame}
 use Rattle.driver_buffers.specs.Packets.{whom_at, frame_of}
 
@@ -38,7 +38,7 @@ failing_inside : (ring : List ℕ) (a : ℕ) → failing_bad ring a ≡ false �
 unfolding failing_bad whom_at pick
 failing_inside ring a e = go (eqb a 0) e
   where
-    go : (b : Bool) → cond b false (not (belongs ring a)) ≡ false → member_or_nobody (length ring) (pick b Nobody (Member (position ring a))) ≡ true
+    go : (b : Bool) → cond b false (not (belongs ring a)) ≡ false → member_or_nobody (length ring) (pick b None (Some (position ring a))) ≡ true
     go true t = refl
     go false t = lt-ltb _ _ (place_inside ring a t)
 

@@ -11,14 +11,10 @@ use Rattle.parts.specs.Messages.{all, blank}
 use Rattle.station.specs.Stations.{awaited_of}
 use Rattle.parts.specs.declared.list.Message.{Message}
 use Rattle.parts.specs.declared.list.Messages.{Messages}
-use Rattle.parts.specs.declared.frame.Whom.{Whom}
-use Rattle.parts.specs.declared.frame.Whom.TheVariants.{Nobody, Member}
+use Rattle.std.specs.Prelude.{Option, None, Some}
 use Rattle.parts.specs.declared.frame.Frame.{Frame}
 use Rattle.parts.specs.declared.frame.Frame.TheVariants.{Token, Transmit, Information}
-use Rattle.parts.specs.declared.frame.Dispatch.{Dispatch}
-use Rattle.parts.specs.declared.frame.Dispatch.TheVariants.{Nothing, Sent}
-use Rattle.station.specs.declared.station.Handled.{Handled}
-use Rattle.station.specs.declared.station.Handled.TheVariants.{Never, Last}
+use Rattle.parts.specs.Frames.{Dispatch}
 use Rattle.station.specs.declared.station.Station.{Station}
 use Rattle.station_theorems.specs.Shaped.{WholeStation}
 use Rattle.station_theorems.specs.Small.{Small, SmallList, SmallDispatch, SmallHandled, SmallFrame, small_message}
@@ -68,9 +64,9 @@ module _ (n own : ℕ) (few : n ≤ 64) (l : Messages) (g : GoodList n own l) (k
 
 -- ---- the awaited frame
 
-whom_typed : (n : ℕ) → n ≤ 64 → (w : Whom) → ((p : ℕ) → w ≡ Member p → p < n) → TypedWhom w
-whom_typed n few Nobody h = tt
-whom_typed n few (Member p) h = omega (arith, few, h p refl)
+whom_typed : (n : ℕ) → n ≤ 64 → (w : Option ℕ) → ((p : ℕ) → w ≡ Some p → p < n) → TypedWhom w
+whom_typed n few None h = tt
+whom_typed n few (Some p) h = omega (arith, few, h p refl)
 
 module _ (n own : ℕ) (few : n ≤ 64) (l : Messages) (g : GoodList n own l) where
   frame_typed : (f : Frame) (to : ℕ) → Proper n own l f to → SmallFrame f → TypedFrame f
@@ -99,13 +95,13 @@ module _ (n own : ℕ) (few : n ≤ 64) (l : Messages) (g : GoodList n own l) wh
         place_u8 = omega (arith, c.same_place, (g.each_good c.message c.there).place_fits);
       }
 
-  dispatch_typed : (d : Dispatch) → ((f : Frame) (to : ℕ) → d ≡ Sent f to → Proper n own l f to) → SmallDispatch d → TypedDispatch d
-  dispatch_typed Nothing p k = tt
-  dispatch_typed (Sent f to) p k = (frame_typed f to (p f to refl) k, omega (arith, few, (p f to refl).member))
+  dispatch_typed : (d : Dispatch) → ((f : Frame) (to : ℕ) → d ≡ Some (f, to) → Proper n own l f to) → SmallDispatch d → TypedDispatch d
+  dispatch_typed None p k = tt
+  dispatch_typed (Some (f, to)) p k = (frame_typed f to (p f to refl) k, omega (arith, few, (p f to refl).member))
 
-handled_typed : (h : Handled) → SmallHandled h → TypedHandled h
-handled_typed Never k = tt
-handled_typed (Last j) k = k
+handled_typed : (h : Option ℕ) → SmallHandled h → TypedHandled h
+handled_typed None k = tt
+handled_typed (Some j) k = k
 
 -- ---- the station
 

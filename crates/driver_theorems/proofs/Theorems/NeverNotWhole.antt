@@ -6,14 +6,15 @@ use Prim.Native.Nat.{ℕ}
 use native.Mathlib.Omega.{arith}
 use lib.Dec.{ltb, leb, eqb}
 use lib.ListN.{length}
+use Rattle.std.specs.Option.{option_map_or}
 use Rattle.packet_codec.specs.Packet.{read_packet, read_number}
 use Rattle.packet_codec.specs.declared.reading.Refusal.TheVariants.{Size, Identifier, BadAt}
 use Rattle.packet_codec.specs.declared.reading.Read.{Read}
 use Rattle.packet_codec.specs.declared.reading.Read.TheVariants.{Refused, Good}
 use Rattle.parts.specs.declared.request.Request.{Request}
-use Rattle.parts.specs.declared.frame.Dispatch.{Dispatch}
-use Rattle.parts.specs.declared.frame.Dispatch.TheVariants.{Nothing, Sent}
-use Rattle.parts.specs.declared.list.Best.{Best}
+use Rattle.parts.specs.Frames.{Dispatch}
+use Rattle.std.specs.Prelude.{Option, None, Some, is_none}
+use Rattle.parts.specs.declared.list.Message.{Message}
 use Rattle.station.specs.Stations.{awaited_of, alone}
 use Rattle.station.specs.Start.{started, start_rule}
 use Rattle.station.specs.Timer.{timer_rule, on_timer, silence, after_strike, unanswered}
@@ -57,8 +58,8 @@ start_other s = moved_gives Other of_moves s _ _ (pick_keeps (Gives Other) (eqb 
 
 on_timer_other : (s : Station) (d : Dispatch) → Gives Other (on_timer s d)
 unfolding on_timer silence after_strike
-on_timer_other s Nothing = not_0
-on_timer_other s (Sent f to) = pick_keeps (Gives Other) _ _ _ not_0 (pick_keeps (Gives Other) (alone (unanswered s to).station) _ _ not_0 not_0)
+on_timer_other s None = not_0
+on_timer_other s (Some (f, to)) = pick_keeps (Gives Other) _ _ _ not_0 (pick_keeps (Gives Other) (alone (unanswered s to).station) _ _ not_0 not_0)
 
 timer_other : (s : Station) → Gives Other (timer_rule s)
 unfolding timer_rule
@@ -93,13 +94,13 @@ unfolding queue_rule accepted
 queue_other s q = moved_gives Other of_moves s _ _ (unless_gives Other s _ _ (refusal_other _ _ _ _ q) not_0)
 
 -- 17, 20, 21
-take_refusal_other : (channel : ℕ) (b : Best) (room : ℕ) → Other (take_refusal channel b room)
+take_refusal_other : (channel : ℕ) (b : Option Message) (room : ℕ) → Other (take_refusal channel b room)
 unfolding take_refusal
 take_refusal_other channel b room =
     let c : Other 17 = λ q. omega (arith, q) in
     let d : Other 20 = λ q. omega (arith, q) in
     let e : Other 21 = λ q. omega (arith, q) in
-    let ts : List (Bool × ℕ) = (ltb 7 channel, 17) ∷ (not b.some, 20) ∷ (ltb room b.message.length, 21) ∷ [] in
+    let ts : List (Bool × ℕ) = (ltb 7 channel, 17) ∷ (is_none b, 20) ∷ (option_map_or (λ (m : Message). ltb room m.length) b false, 21) ∷ [] in
     first_gives Other 0 ts not_0 (c, (d, (e, tt)))
 
 take_other : (s : Station) (channel room : ℕ) → Gives Other (take_rule s channel room)

@@ -1,15 +1,15 @@
 -- Laws of messages and their lists. Assumes nothing.
-use Rattle.std.proofs.Common.{◌≡◌, ℕ, suc, ◌+◌, ◌-◌, ◌<◌, ◌≤◌, Bool, true, false, ltb, List, [], ◌∷◌, ◌++◌, map, length, get_or, take, drop, set, replicate, sym, refl, ap, ◌∙◌, append-nil, add-one, arith, length-append, drop_of_length-le, length-take, take_all, drop-cons, get_or-take, take-suc, ltb-false, ltb-true, le-ltb, lt-ltb, eq-eqb, ne_eqb}
+use Rattle.std.proofs.Common.{◌≡◌, ℕ, suc, ◌+◌, ◌-◌, ◌<◌, ◌≤◌, Bool, true, false, ltb, List, [], ◌∷◌, ◌++◌, map, length, get_or, take, drop, set, replicate, Option, None, Some, sym, refl, ap, ◌∙◌, append-nil, add-one, arith, length-append, drop_of_length-le, length-take, take_all, drop-cons, get_or-take, take-suc, ltb-false, ltb-true, le-ltb, lt-ltb, eq-eqb, ne_eqb}
 use lib.ListN.{length-map}
 use lib.Seq.{set_at, append_snoc}
+use Rattle.std.specs.Option.{option_map_or}
 use Rattle.parts.specs.Choose.{pick}
 use Rattle.parts.specs.declared.list.Message.{Message}
 use Rattle.parts.specs.declared.list.Messages.{Messages}
-use Rattle.parts.specs.declared.list.Best.{Best}
 use Rattle.parts.specs.declared.list.Top.{Top}
 use Rattle.parts.specs.declared.list.Parts.{Parts}
 use Rattle.parts.specs.declared.list.Which.{Which}
-use Rattle.parts.specs.Messages.{all, used, blank, pack, pushed, fits, only, split_by, chosen_by, no_best, the_best, better_of, best_of, standing, top_at, higher_of, has_place, free_from}
+use Rattle.parts.specs.Messages.{all, used, blank, pack, pushed, fits, only, split_by, chosen_by, better_of, best_of, standing, top_at, higher_of, has_place, free_from}
 use Rattle.parts.proofs.Laws.Choose.{pick_true, pick_false}
 
 -- what owning an array of structs tells of its list
@@ -103,11 +103,11 @@ free_none p ms = refl
 -- ---- the best
 
 module _ (w : Which) where
-  pub best_none : (b : Best) → best_of w [] b ≡ b
+  pub best_none : (b : Option Message) → best_of w [] b ≡ b
   unfolding best_of
   best_none b = refl
 
-  pub best_more : (m : Message) (ms : List Message) (b : Best) → best_of w (m ∷ ms) b ≡ best_of w ms (better_of w b m)
+  pub best_more : (m : Message) (ms : List Message) (b : Option Message) → best_of w (m ∷ ms) b ≡ best_of w ms (better_of w b m)
   unfolding best_of
   best_more m ms b = refl
 
@@ -165,23 +165,26 @@ pack_more ms m h =
 
 -- ---- one message more for the best
 
-module _ (w : Which) (b : Best) (m : Message) where
+module _ (w : Which) (b : Option Message) (m : Message) where
+  abbrev lower : Option Message → Bool
+  lower o = option_map_or (λ (c : Message). ltb c.priority m.priority) o true
+
   pub better_unfit : fits w m ≡ false → better_of w b m ≡ b
   unfolding better_of
   better_unfit e = pick_false _ b e
 
   module _ (e : fits w m ≡ true) where
-    pub better_first : b.some ≡ false → better_of w b m ≡ the_best m
+    pub better_first : b ≡ None → better_of w b m ≡ Some m
     unfolding better_of
-    better_first f = pick_true _ b e ∙ pick_false _ (the_best m) f
+    better_first f = pick_true _ b e ∙ pick_true _ b (ap lower f)
 
-    pub better_higher : b.some ≡ true → b.message.priority < m.priority → better_of w b m ≡ the_best m
+    pub better_higher : (c : Message) → b ≡ Some c → c.priority < m.priority → better_of w b m ≡ Some m
     unfolding better_of
-    better_higher f h = pick_true _ b e ∙ pick_true _ (the_best m) f ∙ pick_true (the_best m) b (lt-ltb b.message.priority m.priority h)
+    better_higher c f h = pick_true _ b e ∙ pick_true _ b (ap lower f ∙ lt-ltb c.priority m.priority h)
 
-    pub better_kept : b.some ≡ true → m.priority ≤ b.message.priority → better_of w b m ≡ b
+    pub better_kept : (c : Message) → b ≡ Some c → m.priority ≤ c.priority → better_of w b m ≡ b
     unfolding better_of
-    better_kept f h = pick_true _ b e ∙ pick_true _ (the_best m) f ∙ pick_false (the_best m) b (le-ltb b.message.priority m.priority h)
+    better_kept c f h = pick_true _ b e ∙ pick_false _ b (ap lower f ∙ le-ltb c.priority m.priority h)
 
 -- ---- the same by position
 
@@ -203,33 +206,37 @@ module _ (w : Which) (t : Top) (m : Message) (i : ℕ) where
     unfolding higher_of
     higher_kept f h = pick_true _ t e ∙ pick_true _ (top_at m i) (lt-ltb t.at 16 f) ∙ pick_false (top_at m i) t (le-ltb t.priority m.priority h)
 
-pub standing_on : (l : Messages) (i : ℕ) → i < 16 → standing l i ≡ the_best (get_or l.items i blank)
-standing_on l i h = pick_true (the_best (get_or l.items i blank)) no_best (lt-ltb i 16 h)
+pub standing_on : (l : Messages) (i : ℕ) → i < 16 → standing l i ≡ Some (get_or l.items i blank)
+standing_on l i h = pick_true (Some (get_or l.items i blank)) None (lt-ltb i 16 h)
 
-pub standing_off : (l : Messages) (i : ℕ) → 16 ≤ i → standing l i ≡ no_best
-standing_off l i h = pick_false (the_best (get_or l.items i blank)) no_best (le-ltb i 16 h)
+pub standing_off : (l : Messages) (i : ℕ) → 16 ≤ i → standing l i ≡ None
+standing_off l i h = pick_false (Some (get_or l.items i blank)) None (le-ltb i 16 h)
+
+-- the priority of a message, if there is one
+abbrev pub height : Option Message → ℕ
+height o = option_map_or (λ (m : Message). m.priority) o 0
 
 -- a turn: the message at the position is the best so far, before and after
-module _ (w : Which) (l : Messages) (t r : Top) (i : ℕ) (inside : i < 16) (p : t.priority ≡ (standing l t.at).message.priority) where
+module _ (w : Which) (l : Messages) (t r : Top) (i : ℕ) (inside : i < 16) (p : t.priority ≡ height (standing l t.at)) where
   abbrev m : Message
   m = get_or l.items i blank
 
-  abbrev b : Best
+  abbrev b : Option Message
   b = standing l t.at
 
   abbrev Turned : Type 0
-  Turned = (standing l r.at ≡ better_of w b m) × (r.priority ≡ (standing l r.at).message.priority)
+  Turned = (standing l r.at ≡ better_of w b m) × (r.priority ≡ height (standing l r.at))
 
   same_top : r ≡ t → better_of w b m ≡ b → Turned
   same_top e k = (
     ap (λ (x : Top). standing l x.at) e ∙ sym k,
-    ap (λ (x : Top). x.priority) e ∙ p ∙ ap (λ (x : Top). (standing l x.at).message.priority) (sym e),
+    ap (λ (x : Top). x.priority) e ∙ p ∙ ap (λ (x : Top). height (standing l x.at)) (sym e),
   )
 
-  new_top : r ≡ top_at m i → better_of w b m ≡ the_best m → Turned
+  new_top : r ≡ top_at m i → better_of w b m ≡ Some m → Turned
   new_top e k = (
     ap (λ (x : Top). standing l x.at) e ∙ standing_on l i inside ∙ sym k,
-    ap (λ (x : Top). x.priority) e ∙ ap (λ (x : Best). x.message.priority) (sym (standing_on l i inside)) ∙ ap (λ (x : Top). (standing l x.at).message.priority) (sym e),
+    ap (λ (x : Top). x.priority) e ∙ ap height (sym (standing_on l i inside)) ∙ ap (λ (x : Top). height (standing l x.at)) (sym e),
   )
 
   pub standing_turn : r ≡ higher_of w t m i → Turned
@@ -239,17 +246,17 @@ module _ (w : Which) (l : Messages) (t r : Top) (i : ℕ) (inside : i < 16) (p :
       go false f s s_is h h_is = same_top (e ∙ higher_unfit w t m i f) (better_unfit w b m f)
       go true f false s_is h h_is =
           let off : 16 ≤ t.at = ltb-false t.at 16 s_is in
-          new_top (e ∙ higher_first w t m i f off) (better_first w b m f (ap (λ (x : Best). x.some) (standing_off l t.at off)))
+          new_top (e ∙ higher_first w t m i f off) (better_first w b m f (standing_off l t.at off))
       go true f true s_is true h_is =
           let on : t.at < 16 = ltb-true t.at 16 s_is in
           let above : t.priority < m.priority = ltb-true t.priority m.priority h_is in
-          let above_best : b.message.priority < m.priority = omega (arith, p) in
-          new_top (e ∙ higher_above w t m i f on above) (better_higher w b m f (ap (λ (x : Best). x.some) (standing_on l t.at on)) above_best)
+          let above_best : (get_or l.items t.at blank).priority < m.priority = omega (arith, p ∙ ap height (standing_on l t.at on)) in
+          new_top (e ∙ higher_above w t m i f on above) (better_higher w b m f _ (standing_on l t.at on) above_best)
       go true f true s_is false h_is =
           let on : t.at < 16 = ltb-true t.at 16 s_is in
           let below : m.priority ≤ t.priority = ltb-false t.priority m.priority h_is in
-          let below_best : m.priority ≤ b.message.priority = omega (arith, p) in
-          same_top (e ∙ higher_kept w t m i f on below) (better_kept w b m f (ap (λ (x : Best). x.some) (standing_on l t.at on)) below_best)
+          let below_best : m.priority ≤ (get_or l.items t.at blank).priority = omega (arith, p ∙ ap height (standing_on l t.at on)) in
+          same_top (e ∙ higher_kept w t m i f on below) (better_kept w b m f _ (standing_on l t.at on) below_best)
 
 -- ---- one part of a list
 

@@ -11,13 +11,9 @@ use Rattle.parts.specs.Moves.{state_number}
 use Rattle.sent.specs.Round.{bid_of, passing}
 use Rattle.parts.specs.declared.moves.State.{State}
 use Rattle.parts.specs.declared.moves.State.TheVariants.{Offline, Idle, Waiting, Alone, Excluded}
-use Rattle.parts.specs.declared.frame.Whom.{Whom}
-use Rattle.parts.specs.declared.frame.Whom.TheVariants.{Nobody, Member}
+use Rattle.std.specs.Prelude.{Option, None, Some}
 use Rattle.parts.specs.declared.frame.Frame.TheVariants.{Token, Transmit, Information}
-use Rattle.parts.specs.declared.frame.Dispatch.{Dispatch}
-use Rattle.parts.specs.declared.frame.Dispatch.TheVariants.{Nothing, Sent}
-use Rattle.station.specs.declared.station.Handled.{Handled}
-use Rattle.station.specs.declared.station.Handled.TheVariants.{Never, Last}
+use Rattle.parts.specs.Frames.{Dispatch}
 use Rattle.records.specs.Fields.{state_from, handled_flag, handled_number, handled_from, whom_number, whom_from, slip_to, slip_of, dispatch_from, same_slip}
 use Rattle.records.specs.declared.slip.Slip.{Slip}
 use Rattle.parts.proofs.Laws.Tests.{held, hold}
@@ -41,39 +37,39 @@ state_fits Waiting = omega arith
 state_fits Alone = omega arith
 state_fits Excluded = omega arith
 
-pub handled_back : (h : Handled) → handled_from (handled_flag h) (handled_number h) ≡ h
+pub handled_back : (h : Option ℕ) → handled_from (handled_flag h) (handled_number h) ≡ h
 unfolding handled_from pick
-handled_back Never = refl
-handled_back (Last k) = refl
+handled_back None = refl
+handled_back (Some k) = refl
 
-pub flag_fits : (h : Handled) → handled_flag h < 256
-flag_fits Never = omega arith
-flag_fits (Last k) = omega arith
+pub flag_fits : (h : Option ℕ) → handled_flag h < 256
+flag_fits None = omega arith
+flag_fits (Some k) = omega arith
 
-pub handled_fits : (h : Handled) → TypedHandled h → handled_number h < 65536
-handled_fits Never t = omega arith
-handled_fits (Last k) t = t
+pub handled_fits : (h : Option ℕ) → TypedHandled h → handled_number h < 65536
+handled_fits None t = omega arith
+handled_fits (Some k) t = t
 
 -- ---- the awaited frame
 
-whom_back : (w : Whom) → TypedWhom w → whom_from (whom_number w) ≡ w
+whom_back : (w : Option ℕ) → TypedWhom w → whom_from (whom_number w) ≡ w
 unfolding whom_from pick
-whom_back Nobody t = refl
-whom_back (Member p) t =
+whom_back None t = refl
+whom_back (Some p) t =
     let e : p + 1 - 1 ≡ p = omega arith in
     rw (ne_eqb (p + 1) 0 (λ z. omega arith), le-ltb 256 (p + 1) (omega arith), e)
 
-whom_fits : (w : Whom) → TypedWhom w → whom_number w < 65536
-whom_fits Nobody t = omega arith
-whom_fits (Member p) t = omega arith
+whom_fits : (w : Option ℕ) → TypedWhom w → whom_number w < 65536
+whom_fits None t = omega arith
+whom_fits (Some p) t = omega arith
 
 pub dispatch_back : (d : Dispatch) → TypedDispatch d → dispatch_from (slip_of d) ≡ d
 unfolding dispatch_from slip_of slip_to pick
-dispatch_back Nothing t = refl
-dispatch_back (Sent (Token f) to) t =
-    ap (λ (w : Whom). Sent (Token (passing f.number f w (bid_of f))) to) (whom_back f.failing t.0.failing_u8)
-dispatch_back (Sent (Transmit f) to) t = refl
-dispatch_back (Sent (Information i) to) t = refl
+dispatch_back None t = refl
+dispatch_back (Some (Token f, to)) t =
+    ap (λ (w : Option ℕ). Some (Token (passing f.number f w (bid_of f)), to)) (whom_back f.failing t.0.failing_u8)
+dispatch_back (Some (Transmit f, to)) t = refl
+dispatch_back (Some (Information i, to)) t = refl
 
 abbrev pub slip_fields : Slip → List Field
 slip_fields p =
@@ -91,13 +87,13 @@ slip_fields p =
 
 pub slip_fits : (d : Dispatch) → TypedDispatch d → Fit (slip_fields (slip_of d))
 unfolding slip_of slip_to
-slip_fits Nothing t =
+slip_fits None t =
     (omega arith, (omega arith, (omega arith, (omega arith, (omega arith, (omega arith, (omega arith, (omega arith, (omega arith, (omega arith, tt))))))))))
-slip_fits (Sent (Token f) to) t =
+slip_fits (Some (Token f, to)) t =
     (omega arith, (t.1, (t.0.number_u16, (t.0.priority_u8, (t.0.master_u8, (whom_fits f.failing t.0.failing_u8, (t.0.named_u8, (omega arith, (omega arith, (omega arith, tt))))))))))
-slip_fits (Sent (Transmit f) to) t =
+slip_fits (Some (Transmit f, to)) t =
     (omega arith, (t.1, (t.0.number_u16, (t.0.priority_u8, (t.0.master_u8, (omega arith, (t.0.named_u8, (omega arith, (omega arith, (omega arith, tt))))))))))
-slip_fits (Sent (Information i) to) t =
+slip_fits (Some (Information i, to)) t =
     (omega arith, (t.1, (t.0.number_u16, (t.0.priority_u8, (omega arith, (omega arith, (omega arith, (t.0.channel_u8, (t.0.place_u8, (t.0.length_u16, tt))))))))))
 
 pub same_slip_lem : (p q : Slip) → same_slip p q ≡ true → p ≡ q

@@ -10,8 +10,8 @@ use Rattle.parts.specs.Choose.{pick}
 use Rattle.parts.specs.Moves.{state_number}
 use Rattle.parts.proofs.Laws.Choose.{pick_and}
 use Rattle.parts.specs.declared.moves.State.{State}
-use Rattle.parts.specs.declared.frame.Dispatch.{Dispatch}
-use Rattle.station.specs.declared.station.Handled.{Handled}
+use Rattle.parts.specs.Frames.{Dispatch}
+use Rattle.std.specs.Prelude.{Option}
 use Rattle.station.specs.declared.station.Turn.{Turn}
 use Rattle.records.specs.Layout.{own_at, state_at, retries_at, handled_at, handled_number_at, awaited_at, lost_at}
 use Rattle.records.specs.Fields.{state_from, state_good, handled_flag, handled_number, handled_from, handled_good, slip_of, dispatch_from, slip_good, slip_at, turn_at, turn_good, turn_octets}
@@ -62,7 +62,7 @@ pub record TurnRead (s : List ℕ) (own : ℕ) (t : Turn) : Type 0 where
 state_good_lem : (st : State) → state_good (state_number st) ≡ true
 state_good_lem st = eq-eqb _ _ (ap state_number (state_back st))
 
-handled_good_lem : (h : Handled) → handled_good (handled_flag h) (handled_number h) ≡ true
+handled_good_lem : (h : Option ℕ) → handled_good (handled_flag h) (handled_number h) ≡ true
 unfolding pick
 handled_good_lem h = rw (eq-eqb _ _ (ap handled_flag (handled_back h))) (eq-eqb _ _ (ap handled_number (handled_back h)))
 

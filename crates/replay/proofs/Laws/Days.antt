@@ -10,11 +10,9 @@ use lib.ListN.{length, get_or, drop, set, length-append}
 use lib.Seq.{set-get_or, take_all}
 use borrow.Author.Tests.{eq-eqb, ne_eqb, ltb-true}
 use Rattle.parts.specs.Choose.{pick}
-use Rattle.parts.specs.Frames.{failing_of}
+use Rattle.parts.specs.Frames.{failing_of, Dispatch}
 use Rattle.parts.specs.declared.live.Live.{Live}
-use Rattle.parts.specs.declared.frame.Dispatch.{Dispatch}
-use Rattle.parts.specs.declared.frame.Dispatch.TheVariants.{Nothing, Sent}
-use Rattle.parts.specs.declared.frame.Whom.TheVariants.{Nobody}
+use Rattle.std.specs.Prelude.{Option, None, Some}
 use Rattle.parts.specs.declared.request.Request.{Request}
 use Rattle.parts.proofs.Laws.Choose.{pick_true, pick_false}
 use Rattle.station.specs.Stations.{moved, unless}
@@ -43,7 +41,7 @@ use Rattle.replay.specs.Table.{Way, day_in, course_in, records_in, plan_in, join
 use Rattle.day.specs.Plans.{no_handing, handing_with, handing_for}
 use Rattle.day.specs.declared.wire.Flying.{Flying}
 use Rattle.day.specs.declared.calls.Call.{Call}
-use Rattle.day.specs.declared.calls.Call.TheVariants.{NoCall, TimerCall, QueueCall}
+use Rattle.day.specs.declared.calls.Call.TheVariants.{TimerCall, QueueCall}
 use Rattle.day.specs.declared.calls.Answered.{Answered}
 use Rattle.day.proofs.Laws.Frames.{unheard_all, unstruck_all, unsent, none_at_all, nobody_at_all, strikers_lines}
 use Rattle.day.proofs.Laws.Strikes.{not_less}
@@ -80,20 +78,20 @@ module _ (c : Course) (going : c.number ≡ 0) where
 -- ---- the table
 
 -- a call of nobody leaves it
-idle_call : (p : ℕ) (ss : List Station) → called_in p NoCall ss ≡ ss
+idle_call : (p : ℕ) (ss : List Station) → called_in p None ss ≡ ss
 unfolding called_by
 idle_call p ss = set-get_or ss p nobody
 
 -- nobody is handed anything
-idle_table : (p : ℕ) (c : Call) (ss : List Station) → called_in p c (handed_in no_handing ss) ≡ called_in p c ss
+idle_table : (p : ℕ) (c : Option Call) (ss : List Station) → called_in p c (handed_in no_handing ss) ≡ called_in p c ss
 idle_table p c ss = ap (called_in p c) (unheard_all 0 (hears no_handing) no_frame 0 0 (none_at_all (hears no_handing)) 0 ss)
 
 -- ---- the wire
 
 joined_few : (wire : List Flying) (p : ℕ) (d : Dispatch) → length wire ≤ 64 → (is_sent d ≡ true → length wire < 64) → joined_by wire p d ≡ wire ++ joining p d
 unfolding joining
-joined_few wire p Nothing few room = take_all 64 (wire ++ []) (omega (arith, length-append wire []))
-joined_few wire p (Sent frame to) few room =
+joined_few wire p None few room = take_all 64 (wire ++ []) (omega (arith, length-append wire []))
+joined_few wire p (Some (frame, to)) few room =
     let less : length wire < 64 = room refl in
     take_all 64 (wire ++ _) (omega (arith, length-append wire (record { from = p; frame = frame; to = to } ∷ [])))
 
@@ -119,7 +117,7 @@ module _ (n : ℕ) (ss : List Station) (size : length ss ≡ 64) where
       × ((take_frame e (day_of wire) wire).n ≡ n)
 
   -- nobody is handed anything, and nothing is printed
-  no_reply : (taken_in no_handing ss).reply ≡ Nothing
+  no_reply : (taken_in no_handing ss).reply ≡ None
   no_reply = unsent 0 (hears no_handing) no_frame 0 0 0 (get_or ss 0 nobody) (none_at_all (hears no_handing) 0)
 
   no_text : taken_text no_handing (taken_in no_handing ss) ≡ []
@@ -158,16 +156,16 @@ module _ (n : ℕ) (ss : List Station) (size : length ss ≡ 64) where
 
 -- ---- a queue call sends nothing
 
-sent_in : (b : Bool) (x y : Answer) → x.sent ≡ Nothing → y.sent ≡ Nothing → (pick b x y).sent ≡ Nothing
+sent_in : (b : Bool) (x y : Answer) → x.sent ≡ None → y.sent ≡ None → (pick b x y).sent ≡ None
 unfolding pick
 sent_in true x y p q = p
 sent_in false x y p q = q
 
-queue_silent : (s : Station) (q : Request) → (queue_rule s q).sent ≡ Nothing
+queue_silent : (s : Station) (q : Request) → (queue_rule s q).sent ≡ None
 unfolding queue_rule moved unless accepted
 queue_silent s q = sent_in _ _ _ (sent_in _ _ _ refl refl) refl
 
-silent_joins : (wire : List Flying) (p : ℕ) → wire ++ joining p Nothing ≡ wire
+silent_joins : (wire : List Flying) (p : ℕ) → wire ++ joining p None ≡ wire
 unfolding joining
 silent_joins wire p = append-nil wire
 
@@ -198,7 +196,7 @@ Turns w r ss =
 module _ (w : Way) (ss : List Station) (size : length ss ≡ 64) (going : w.number ≡ 0) (few : length w.wire ≤ 64) where
   -- a handing that does what the event's definition says
   frame_turn : (e : Event) (h : Handing) → Took w.n ss size e w.wire h → after_record (day_in w ss) e ≡ take_frame e (day_in w ss) w.wire → record_text (day_in w ss) e ≡ take_text e (day_in w ss) w.wire → event_number (day_in w ss) e ≡ 0
-      → (next : ℕ) → (course_in (after_taken w next h (taken_in h ss)) (called_in 0 NoCall (handed_in h ss)) ≡ gone (course_in w ss) (good e ∷ [])) × (taken_text h (taken_in h ss) ≡ gone_text (course_in w ss) (good e ∷ []))
+      → (next : ℕ) → (course_in (after_taken w next h (taken_in h ss)) (called_in 0 None (handed_in h ss)) ≡ gone (course_in w ss) (good e ∷ [])) × (taken_text h (taken_in h ss) ≡ gone_text (course_in w ss) (good e ∷ []))
   frame_turn e h took after prints free next =
       let d : Day = take_frame e (day_in w ss) w.wire in (
         ap (λ (l : List Station). course_of w.n l (joined_by (drop 1 w.wire) h.to (taken_in h ss).reply) (w.done + 1) 0) (idle_call 0 (handed_in h ss) ∙ took.0)
@@ -236,7 +234,7 @@ module _ (w : Way) (ss : List Station) (size : length ss ≡ 64) (going : w.numb
   queue_turn : (next p : ℕ) (q : Request) → Turns w (Good (Queue p q) next) ss
   unfolding plan_in handing_for after_read read_text after_event event_text after_record record_text event_number called_by after_call
   queue_turn next p q = (
-    ap (λ (l : List Station). course_of w.n l w.wire (w.done + 1) 0) (idle_table p (QueueCall q) ss)
+    ap (λ (l : List Station). course_of w.n l w.wire (w.done + 1) 0) (idle_table p (Some (QueueCall q)) ss)
         ∙ ap (λ (k : ℕ). course_of w.n (set ss p (queue_rule (get_or ss p nobody) q).station) w.wire k 0) (add-one w.done)
         ∙ ap (λ (l : List Flying). course_of w.n (set ss p (queue_rule (get_or ss p nobody) q).station) l (suc w.done) 0) (sym (ap (λ (d : Dispatch). w.wire ++ joining p d) (queue_silent (get_or ss p nobody) q) ∙ silent_joins w.wire p))
         ∙ sym (goes (course_in w ss) going (Queue p q) refl),
@@ -248,14 +246,14 @@ module _ (w : Way) (ss : List Station) (size : length ss ≡ 64) (going : w.numb
   end_turn : Turns w End ss
   unfolding plan_in after_read read_text gone gone_text
   end_turn = (
-    ap (λ (l : List Station). course_of w.n l w.wire w.done w.number) (idle_table 0 NoCall ss ∙ idle_call 0 ss),
+    ap (λ (l : List Station). course_of w.n l w.wire w.done w.number) (idle_table 0 None ss ∙ idle_call 0 ss),
     refl,
   )
 
   refused_turn : (k : ℕ) → (k ≡ 0 → ⊥) → Turns w (Refused k) ss
   unfolding plan_in after_read read_text record_number
   refused_turn k o = (
-    ap (λ (l : List Station). course_of w.n l w.wire w.done k) (idle_table 0 NoCall ss ∙ idle_call 0 ss) ∙ sym (stops (course_in w ss) going (bad k) k refl o),
+    ap (λ (l : List Station). course_of w.n l w.wire w.done k) (idle_table 0 None ss ∙ idle_call 0 ss) ∙ sym (stops (course_in w ss) going (bad k) k refl o),
     sym (stops_text (course_in w ss) going (bad k) k refl o),
   )
 
@@ -279,12 +277,12 @@ module _ (w : Way) (ss : List Station) (size : length ss ≡ 64) (going : w.numb
     refused_timer t =
         let c : timed seat (ltb (length w.wire) most_frames) rung ≡ refused_by seat 36 = pick_true _ _ t in
         let number : event_number (day_in w ss) (Timer p) ≡ 36 = pick_true 36 0 (full_is ∙ t) in (
-          ap (λ (l : List Station). course_in (after_timer w next p (timed seat (ltb (length w.wire) most_frames) rung).told) l) (idle_table p (TimerCall (ltb (length w.wire) most_frames)) ss ∙ ap (λ (k : Answered). set ss p k.station) c ∙ set-get_or ss p nobody)
+          ap (λ (l : List Station). course_in (after_timer w next p (timed seat (ltb (length w.wire) most_frames) rung).told) l) (idle_table p (Some (TimerCall (ltb (length w.wire) most_frames))) ss ∙ ap (λ (k : Answered). set ss p k.station) c ∙ set-get_or ss p nobody)
               ∙ ap (λ (k : Answered). course_in (after_timer w next p k.told) ss) c
-              ∙ ap (λ (x : Way). course_in x ss) (pick_false (onward w (joined_by w.wire p Nothing) next (called_text p (told 36 Nothing Nobody))) (halted w 36 (stopped_text 36 w.done)) refl)
+              ∙ ap (λ (x : Way). course_in x ss) (pick_false (onward w (joined_by w.wire p None) next (called_text p (told 36 None None))) (halted w 36 (stopped_text 36 w.done)) refl)
               ∙ sym (stops (course_in w ss) going (good (Timer p)) 36 number (λ z. absurd (omega (arith, z)))),
           ap (λ (k : Answered). timer_lines w.done p k.told) c
-              ∙ pick_false (called_text p (told 36 Nothing Nobody)) (stopped_text 36 w.done) refl
+              ∙ pick_false (called_text p (told 36 None None)) (stopped_text 36 w.done) refl
               ∙ sym (stops_text (course_in w ss) going (good (Timer p)) 36 number (λ z. absurd (omega (arith, z)))),
         )
 
@@ -293,7 +291,7 @@ module _ (w : Way) (ss : List Station) (size : length ss ≡ 64) (going : w.numb
     rung_timer t =
         let c : timed seat (ltb (length w.wire) most_frames) rung ≡ record { station = rung.station; told = told 0 rung.sent rung.struck } = pick_false _ _ t in
         let number : event_number (day_in w ss) (Timer p) ≡ 0 = pick_false 36 0 (full_is ∙ t) in (
-          ap (λ (l : List Station). course_in (after_timer w next p (timed seat (ltb (length w.wire) most_frames) rung).told) l) (idle_table p (TimerCall (ltb (length w.wire) most_frames)) ss ∙ ap (λ (k : Answered). set ss p k.station) c)
+          ap (λ (l : List Station). course_in (after_timer w next p (timed seat (ltb (length w.wire) most_frames) rung).told) l) (idle_table p (Some (TimerCall (ltb (length w.wire) most_frames))) ss ∙ ap (λ (k : Answered). set ss p k.station) c)
               ∙ ap (λ (k : Answered). course_in (after_timer w next p k.told) (set ss p rung.station)) c
               ∙ ap (λ (x : Way). course_in x (set ss p rung.station)) (pick_true (onward w (joined_by w.wire p rung.sent) next (called_text p (told 0 rung.sent rung.struck))) (halted w 0 (stopped_text 0 w.done)) refl)
               ∙ ap (λ (l : List Flying). course_of w.n (set ss p rung.station) l (w.done + 1) 0) (joined_few w.wire p rung.sent few (room_left (length w.wire) (is_sent rung.sent) t))

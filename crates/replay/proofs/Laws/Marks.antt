@@ -6,12 +6,13 @@ use Prim.Native.Nat.{ℕ, suc, ◌+◌, ◌≤◌}
 use native.Mathlib.Omega.{arith}
 use lib.ListN.{length, get_or}
 use native.Mathlib.Numerals.{add-one}
+use Rattle.std.specs.Prelude.{Option}
 use Rattle.parts.specs.declared.live.Live.{Live}
 use Rattle.station.specs.declared.station.Station.{Station}
 use Rattle.bench.specs.declared.table.Handing.{Handing}
 use Rattle.codec.specs.Octets.{laid}
 use Rattle.parts.specs.Live.{seats}
-use Rattle.parts.specs.declared.frame.Dispatch.{Dispatch}
+use Rattle.parts.specs.Frames.{Dispatch}
 use Rattle.bench.specs.Ring.{nobody}
 use Rattle.bench.specs.Delivery.{is_quiet}
 use Rattle.capture.specs.declared.record.Read.{Read}
@@ -47,17 +48,17 @@ pub strikers_named : (h : Handing) (m : ℕ) (none : Live) (ys : List Station) (
 strikers_named h m none ys h' e f o =
     ap (λ (k : ℕ). strikers_of none k ys h) f ∙ ap (λ (l : Live). strikers_of l (span h) ys h) o ∙ ap (λ (k : Handing). strikers_of no_strikers (span k) ys k) e
 
-pub told_named : (p : ℕ) (c : Call) (ys : List Station) (k : Plan) → p ≡ k.place → c ≡ k.call → told_by (get_or ys p nobody) c ≡ told_in k ys
-told_named p c ys k e f = ap (λ (i : ℕ). told_by (get_or ys i nobody) c) e ∙ ap (λ (d : Call). told_by (get_or ys k.place nobody) d) f
+pub told_named : (p : ℕ) (c : Option Call) (ys : List Station) (k : Plan) → p ≡ k.place → c ≡ k.call → told_by (get_or ys p nobody) c ≡ told_in k ys
+told_named p c ys k e f = ap (λ (i : ℕ). told_by (get_or ys i nobody) c) e ∙ ap (λ (d : Option Call). told_by (get_or ys k.place nobody) d) f
 
 pub asks_named : (h : Handing) (w : Way) (r : Read) → h ≡ (plan_in w r).handing → (h.m ≡ seats h.n) × (h.quiet ≡ is_quiet h.frame)
 asks_named h w r e = subst (λ (k : Handing). (k.m ≡ seats k.n) × (k.quiet ≡ is_quiet k.frame)) (sym e) (plan_asks w r)
 
-pub acts_named : (h : Handing) (p : ℕ) (c : Call) (ys : List Station) (k : Plan) (r : Dispatch) (us : List Station) → h ≡ k.handing → p ≡ k.place → c ≡ k.call
+pub acts_named : (h : Handing) (p : ℕ) (c : Option Call) (ys : List Station) (k : Plan) (r : Dispatch) (us : List Station) → h ≡ k.handing → p ≡ k.place → c ≡ k.call
     → (r ≡ (taken_in h ys).reply) × (us ≡ called_in p c (handed_in h ys)) → (r ≡ (taken_in k.handing ys).reply) × (us ≡ table_in k ys)
 acts_named h p c ys k r us e f d x = (
   x.0 ∙ ap (λ (i : Handing). (taken_in i ys).reply) e,
-  x.1 ∙ ap (λ (i : Handing). called_in p c (handed_in i ys)) e ∙ ap (λ (i : ℕ). called_in i c (handed_in k.handing ys)) f ∙ ap (λ (i : Call). called_in k.place i (handed_in k.handing ys)) d,
+  x.1 ∙ ap (λ (i : Handing). called_in p c (handed_in i ys)) e ∙ ap (λ (i : ℕ). called_in i c (handed_in k.handing ys)) f ∙ ap (λ (i : Option Call). called_in k.place i (handed_in k.handing ys)) d,
 )
 
 -- one record's turn

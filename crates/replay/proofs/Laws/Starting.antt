@@ -9,8 +9,8 @@ use lib.ListN.{length, get_or, take}
 use borrow.Author.Tests.{eq-eqb, ne_eqb, lt-ltb, le-ltb, ltb-true, ltb-false}
 use Rattle.codec.specs.Octets.{laid}
 use Rattle.parts.specs.Choose.{pick}
-use Rattle.parts.specs.declared.frame.Dispatch.{Dispatch}
-use Rattle.parts.specs.declared.frame.Dispatch.TheVariants.{Nothing, Sent}
+use Rattle.parts.specs.Frames.{Dispatch}
+use Rattle.std.specs.Prelude.{None, Some}
 use Rattle.parts.proofs.Laws.Choose.{pick_true, pick_false}
 use Rattle.station.specs.declared.station.Station.{Station}
 use Rattle.bench.specs.Ring.{nobody, ring_with}
@@ -39,8 +39,8 @@ course_with n ss fs = record { day = record { n = n; stations = ss; wire = fs };
 
 joins_first : (p : ℕ) (d : Dispatch) → take most_frames (joining p d) ≡ joining p d
 unfolding joining
-joins_first p Nothing = refl
-joins_first p (Sent frame to) = refl
+joins_first p None = refl
+joins_first p (Some (frame, to)) = refl
 
 none_flying : flying_of no_frames ≡ []
 unfolding flying_of

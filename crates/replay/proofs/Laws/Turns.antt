@@ -5,6 +5,7 @@ use Prim.Native.Nat.{ℕ, ◌+◌, ◌<◌, ◌≤◌}
 use native.Mathlib.Omega.{arith}
 use lib.ListN.{length, drop}
 use borrow.Author.Tests.{eq-eqb}
+use Rattle.std.specs.Prelude.{Option}
 use Rattle.codec.specs.Octets.{laid}
 use Rattle.codec.proofs.Laws.Octets.{laid_none}
 use Rattle.parts.proofs.Laws.Choose.{pick_true}
@@ -37,7 +38,7 @@ module _ (w : Way) (r : Read) where
   unfolding plan_in
   plan_event e next x = rw x
 
-  pub plan_made : (e : Event) (next : ℕ) (h : Handing) (p : ℕ) (k : Call) → r ≡ Good e next → h ≡ handing_for w.n w.wire e → p ≡ place_for e → k ≡ call_for w.wire e
+  pub plan_made : (e : Event) (next : ℕ) (h : Handing) (p : ℕ) (k : Option Call) → r ≡ Good e next → h ≡ handing_for w.n w.wire e → p ≡ place_for e → k ≡ call_for w.wire e
       → plan_of h p k ≡ plan_in w r
   plan_made e next h p k x a b c = rw (a, b, c) (sym (plan_event e next x))
 

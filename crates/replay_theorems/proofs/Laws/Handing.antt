@@ -9,13 +9,12 @@ use native.Mathlib.Omega.{arith}
 use lib.ListN.{length, length-set}
 use lib.Seq.{get_or-set_same, get_or-set_other}
 use borrow.Author.Tests.{ltb-true, eqb-false, not-true}
-use Rattle.parts.specs.Frames.{fit}
+use Rattle.parts.specs.Frames.{fit, Dispatch}
 use Rattle.station.specs.Stations.{state_of, awaited_of, answered}
 use Rattle.station.specs.Heard.{frame_rule}
 use Rattle.wholeness.specs.Whole.{awaited_good}
 use Rattle.parts.specs.declared.frame.Frame.{Frame}
-use Rattle.parts.specs.declared.frame.Dispatch.{Dispatch}
-use Rattle.parts.specs.declared.frame.Dispatch.TheVariants.{Nothing, Sent}
+use Rattle.std.specs.Prelude.{None, Some}
 use Rattle.station.specs.declared.station.Station.{Station}
 use Rattle.station.specs.declared.station.Answer.{Answer}
 use Rattle.parts.proofs.Laws.Tests.{held}
@@ -99,13 +98,13 @@ module _ {n limit p : ℕ} {s : Station} (m : MemberOf n limit p s) where
       (m, placed_answered s 0)
 
   -- what it awaits is fit, and to another member
-  good : {g : Frame} {to : ℕ} → awaited_of s ≡ Sent g to → awaited_good (state_of s) n p s.sends (Sent g to) ≡ true
+  good : {g : Frame} {to : ℕ} → awaited_of s ≡ Some (g, to) → awaited_good (state_of s) n p s.sends (Some (g, to)) ≡ true
   good e =
       subst (λ (d : Dispatch). awaited_good (state_of s) n p s.sends d ≡ true) e
       (subst (λ (i : ℕ). awaited_good (state_of s) n i s.sends (awaited_of s) ≡ true) m.own
       (subst (λ (i : ℕ). awaited_good (state_of s) i s.own s.sends (awaited_of s) ≡ true) m.same_n (whole_sound s m.whole).awaited))
 
-  pub awaited_proper : p < n → (g : Frame) (to : ℕ) → awaited_of s ≡ Sent g to → Proper n (record { from = p; frame = g; to = to })
+  pub awaited_proper : p < n → (g : Frame) (to : ℕ) → awaited_of s ≡ Some (g, to) → Proper n (record { from = p; frame = g; to = to })
   unfolding awaited_good
   awaited_proper h g to e =
       let t = held _ (good e) in
@@ -119,14 +118,14 @@ module _ {n limit p : ℕ} {s : Station} {a : Answer} (h : p < n) (placed : Plac
   joining_proper f = go a.sent refl
     where
       go : (d : Dispatch) → a.sent ≡ d → Memᴰ f (joining p d) → Proper n f
-      go Nothing e i = absurd (Memᴰ.not-nil i)
-      go (Sent g to) e i = subst (Proper n) (sym (Memᴰ.eq_of_singleton i)) (awaited_proper m h g to (placed.awaits g to e))
+      go None e i = absurd (Memᴰ.not-nil i)
+      go (Some (g, to)) e i = subst (Proper n) (sym (Memᴰ.eq_of_singleton i)) (awaited_proper m h g to (placed.awaits g to e))
 
 pub joining_few : (p : ℕ) (d : Dispatch) → length (joining p d) ≤ 1
 unfolding joining
-joining_few p Nothing = omega arith
-joining_few p (Sent g to) = omega arith
+joining_few p None = omega arith
+joining_few p (Some (g, to)) = omega arith
 
-pub none_joins : (p : ℕ) → joining p Nothing ≡ []
+pub none_joins : (p : ℕ) → joining p None ≡ []
 unfolding joining
 none_joins p = refl

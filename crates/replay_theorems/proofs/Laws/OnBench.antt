@@ -11,8 +11,7 @@ use borrow.Author.Tests.{ltb-true, ltb-false, lt-leb}
 use Rattle.parts.specs.Live.{seats}
 use Rattle.station.specs.Heard.{frame_rule}
 use Rattle.station.specs.Queue.{queue_rule}
-use Rattle.parts.specs.declared.frame.Whom.{Whom}
-use Rattle.parts.specs.declared.frame.Whom.TheVariants.{Nobody}
+use Rattle.std.specs.Prelude.{Option, None}
 use Rattle.parts.specs.declared.frame.Frame.{Frame}
 use Rattle.parts.specs.declared.request.Request.{Request}
 use Rattle.station.specs.declared.station.Station.{Station}
@@ -42,16 +41,16 @@ use Rattle.replay_theorems.proofs.Laws.Beginning.{wire_begun}
 
 -- ---- where nobody is struck there is no line of it
 
-no_line : (w : Whom) (q : ℕ) → w ≡ Nobody → struck_line w q ≡ []
+no_line : (w : Option ℕ) (q : ℕ) → w ≡ None → struck_line w q ≡ []
 unfolding struck_line
-no_line w q e = ap (λ (v : Whom). struck_line v q) e
+no_line w q e = ap (λ (v : Option ℕ). struck_line v q) e
 
 no_lines : (n : ℕ) (hears : ℕ → Bool) (f : Frame) (from to k : ℕ) (ss : List Station)
-    → ((i : ℕ) → i < length ss → (handed n hears f from to (k + i) (get_or ss i nobody)).struck ≡ Nobody) → struck_lines n hears f from to k ss ≡ []
+    → ((i : ℕ) → i < length ss → (handed n hears f from to (k + i) (get_or ss i nobody)).struck ≡ None) → struck_lines n hears f from to k ss ≡ []
 unfolding struck_lines
 no_lines n hears f from to k [] h = refl
 no_lines n hears f from to k (s ∷ ss) h =
-    let here : (handed n hears f from to k s).struck ≡ Nobody =
+    let here : (handed n hears f from to k s).struck ≡ None =
     ap (λ (j : ℕ). (handed n hears f from to j s).struck) (sym (add-zero k)) ∙ h 0 (omega arith) in
     ap (λ (l : List Line). l ++ struck_lines n hears f from to (suc k) ss) (no_line _ k here)
     ∙ no_lines n hears f from to (suc k) ss
@@ -61,7 +60,7 @@ no_lines n hears f from to k (s ∷ ss) h =
 
 module _ {limit : ℕ} (b : Bench) (q : Quiet limit b) where
   -- whom the frame on the wire strikes
-  unharmed : (p : ℕ) → (handed b.n (others b.wire.from) q.frame b.wire.from q.to p (station_at b p)).struck ≡ Nobody
+  unharmed : (p : ℕ) → (handed b.n (others b.wire.from) q.frame b.wire.from q.to p (station_at b p)).struck ≡ None
   unharmed p = go (ltb p b.n) refl (role b.wire.from q.to p)
     where
       hears : ℕ → Bool
@@ -71,14 +70,14 @@ module _ {limit : ℕ} (b : Bench) (q : Quiet limit b) where
       heard h o = handed_hears b.n hears q.frame b.wire.from q.to p (station_at b p) h (others_hear b.wire.from p o)
 
       go : (t : Bool) → ltb p b.n ≡ t → Role b.wire.from q.to p
-          → (handed b.n hears q.frame b.wire.from q.to p (station_at b p)).struck ≡ Nobody
+          → (handed b.n hears q.frame b.wire.from q.to p (station_at b p)).struck ≡ None
       go false x r =
           ap (λ (a : Answer). a.struck) (handed_outside b.n hears q.frame b.wire.from q.to p (station_at b p) (ltb-false p b.n x))
       go true x (sends e) =
           ap (λ (a : Answer). a.struck) (handed_not b.n hears q.frame b.wire.from q.to p (station_at b p) (sender_not b.wire.from p e))
       go true x (answers e o) =
           ap (λ (a : Answer). a.struck) (heard (ltb-true p b.n x) o)
-          ∙ subst (λ (i : ℕ). (frame_rule (station_at b i) q.frame b.wire.from q.to).struck ≡ Nobody) (sym e) (answer_at q.picture).nobody_struck
+          ∙ subst (λ (i : ℕ). (frame_rule (station_at b i) q.frame b.wire.from q.to).struck ≡ None) (sym e) (answer_at q.picture).nobody_struck
       go true x (overhears y o) =
           ap (λ (a : Answer). a.struck) (heard (ltb-true p b.n x) o) ∙ (silent_at q.picture p (ltb-true p b.n x) o y).nobody_struck
 

@@ -3,10 +3,10 @@
 use mathlib.Core.Path.{◌≡◌, refl, ap, ◌∙◌}
 use mathlib.Core.Bool.{true, not}
 use Prim.Native.Nat.{ℕ}
-use native.Mathlib.Omega.{arith}
 use lib.Dec.{ltb, leb, eqb}
 use borrow.Author.Tests.{ne_eqb}
-use Rattle.parts.specs.Frames.{number_of, failing_of, flight}
+use Rattle.parts.proofs.Laws.Choose.{map_or_keeps}
+use Rattle.parts.specs.Frames.{number_of, failing_of, flight, Dispatch}
 use Rattle.station.specs.Strike.{Loss, Struck, strike, nothing_gone, give_up_to, give_up_at, give_up_flight, message_at, stopped}
 use Rattle.station.specs.Stations.{awaited_of, alone, answered, moved, unless}
 use Rattle.parts.specs.Live.{newly}
@@ -15,12 +15,10 @@ use Rattle.station.specs.Timer.{unanswered, after_strike, silence, on_timer, tim
 use Rattle.station.specs.Queue.{accepted, queue_rule}
 use Rattle.parts.specs.declared.moves.Event.{Event}
 use Rattle.parts.specs.declared.moves.State.{State}
-use Rattle.parts.specs.declared.frame.Whom.{Whom}
-use Rattle.parts.specs.declared.frame.Whom.TheVariants.{Nobody, Member}
+use Rattle.std.specs.Prelude.{Option, None, Some}
+use Rattle.std.proofs.lemmas.Option.{none-some}
 use Rattle.parts.specs.declared.frame.Frame.{Frame}
 use Rattle.parts.specs.declared.frame.Frame.TheVariants.{Token, Transmit, Information}
-use Rattle.parts.specs.declared.frame.Dispatch.{Dispatch}
-use Rattle.parts.specs.declared.frame.Dispatch.TheVariants.{Nothing, Sent}
 use Rattle.parts.specs.declared.request.Request.{Request}
 use Rattle.station.specs.declared.station.Station.{Station}
 use Rattle.station.specs.declared.station.Answer.{Answer}
@@ -45,16 +43,15 @@ unfolding give_up_flight give_up_at
 flight_seat l =
     let here : Loss → Type 0 = λ (m : Loss). Seat l.station m.station in
     let left : Seat l.station l.station = same_seat l.station in
-    pick_keeps here (flight (awaited_of l.station)).on _ l
-    (pick_keeps here (message_at l.station (flight (awaited_of l.station)).place).some _ l
-    (record { same_n = refl; same_limit = refl; same_own = refl }) left)
+    map_or_keeps here _ (flight (awaited_of l.station)) l
+    (λ p. map_or_keeps here _ (message_at l.station p) l (λ m. record { same_n = refl; same_limit = refl; same_own = refl }) left)
     left
 
 up_to_seat : (s : Station) (p q : ℕ) → Seat s (give_up_to (strike s p) q).station
 unfolding give_up_to
 up_to_seat s p q = record { same_n = refl; same_limit = refl; same_own = refl }
 
-stopped_seat : (l : Loss) (w : Whom) (st : State) → Seat l.station (stopped l w st).station
+stopped_seat : (l : Loss) (w : Option ℕ) (st : State) → Seat l.station (stopped l w st).station
 stopped_seat l w st =
     let h = flight_seat l in
     record { same_n = h.same_n; same_limit = h.same_limit; same_own = h.same_own }
@@ -63,15 +60,15 @@ acknowledge_seat : (s : Station) (from k : ℕ) → Seat s (acknowledge s from k
 unfolding acknowledge landed
 acknowledge_seat s from k =
     let h : Seat s (landed s) =
-    pick_keeps (Seat s) (flight (awaited_of s)).on _ s (record { same_n = refl; same_limit = refl; same_own = refl }) (same_seat s) in
+    map_or_keeps (Seat s) _ (flight (awaited_of s)) s (λ p. record { same_n = refl; same_limit = refl; same_own = refl }) (same_seat s) in
     pick_keeps (Seat s) (acknowledged s from k) _ s
     (record { same_n = h.same_n; same_limit = h.same_limit; same_own = h.same_own })
     (same_seat s)
 
-pub failed_seat : (s : Station) (w : Whom) → Seat s (failed s w).station
+pub failed_seat : (s : Station) (w : Option ℕ) → Seat s (failed s w).station
 unfolding failed strike_heard strike_other
-failed_seat s Nobody = same_seat s
-failed_seat s (Member p) =
+failed_seat s None = same_seat s
+failed_seat s (Some p) =
     let here : Struck → Type 0 = λ (k : Struck). Seat s k.station in
     let struck : Seat s (strike s p) = record { same_n = refl; same_limit = refl; same_own = refl } in
     let told = up_to_seat s p p in
@@ -92,16 +89,13 @@ stored_seat s from (Information i) =
 
 -- ---- what is sent is awaited
 
-pub not_sent : {f : Frame} {to : ℕ} → Nothing ≡ Sent f to → ⊥
-not_sent e = let z : ◌≡◌ {A = ℕ} 0 1 = cc in omega arith
-
 -- a call's answer: the station in its place, awaiting what it sends
 pub record Placed (s : Station) (a : Answer) : Type 0 where
   pub seat : Seat s a.station
-  pub awaits : (f : Frame) (to : ℕ) → a.sent ≡ Sent f to → awaited_of a.station ≡ Sent f to
+  pub awaits : (f : Frame) (to : ℕ) → a.sent ≡ Some (f, to) → awaited_of a.station ≡ Some (f, to)
 
 pub placed_answered : (s : Station) (number : ℕ) → Placed s (answered s number)
-placed_answered s number = record { seat = same_seat s; awaits = λ f to e. absurd (not_sent e) }
+placed_answered s number = record { seat = same_seat s; awaits = λ f to e. absurd (none-some _ e) }
 
 placed_moved : (s : Station) (e : Event) (a : Answer) → Placed s a → Placed s (moved s e a)
 unfolding moved
@@ -116,7 +110,7 @@ unfolding respond handle
 respond_placed s k from to f h =
     let t = then_seat h (stored_seat k.station from f) in
     pick_keeps (Placed s) (nothing_more k.station to (number_of f)) _ _
-    (record { seat = h; awaits = λ g p e. absurd (not_sent e) })
+    (record { seat = h; awaits = λ g p e. absurd (none-some _ e) })
     (record { seat = record { same_n = t.same_n; same_limit = t.same_limit; same_own = t.same_own }; awaits = λ g p e. e })
 
 -- the station that responds to a frame
@@ -136,13 +130,13 @@ unanswered_seat s to =
 
 on_timer_placed : (s : Station) (d : Dispatch) → Placed s (on_timer s d)
 unfolding on_timer silence after_strike
-on_timer_placed s Nothing = placed_answered s 0
-on_timer_placed s (Sent g at) =
+on_timer_placed s None = placed_answered s 0
+on_timer_placed s (Some (g, at)) =
     let h = unanswered_seat s at in
     pick_keeps (Placed s) (ltb s.turn.retries s.limit) _ _
     (record { seat = record { same_n = refl; same_limit = refl; same_own = refl }; awaits = λ f to e. e })
     (pick_keeps (Placed s) (alone (unanswered s at).station) _ _
-    (record { seat = record { same_n = h.same_n; same_limit = h.same_limit; same_own = h.same_own }; awaits = λ f to e. absurd (not_sent e) })
+    (record { seat = record { same_n = h.same_n; same_limit = h.same_limit; same_own = h.same_own }; awaits = λ f to e. absurd (none-some _ e) })
     (record { seat = record { same_n = h.same_n; same_limit = h.same_limit; same_own = h.same_own }; awaits = λ f to e. e }))
 
 pub timer_placed : (s : Station) → Placed s (timer_rule s)
@@ -154,15 +148,15 @@ unfolding queue_rule accepted
 queue_placed s q =
     placed_moved s _ _
     (placed_unless s _ _
-    (record { seat = record { same_n = refl; same_limit = refl; same_own = refl }; awaits = λ f to e. absurd (not_sent e) }))
+    (record { seat = record { same_n = refl; same_limit = refl; same_own = refl }; awaits = λ f to e. absurd (none-some _ e) }))
 
 -- ---- who sends nothing
 
 abbrev Silent : Answer → Type 0
-Silent a = a.sent ≡ Nothing
+Silent a = a.sent ≡ None
 
 -- a frame addressed elsewhere
-pub frame_silent : (s : Station) (f : Frame) (from to : ℕ) → (to ≡ s.own → ⊥) → (frame_rule s f from to).sent ≡ Nothing
+pub frame_silent : (s : Station) (f : Frame) (from to : ℕ) → (to ≡ s.own → ⊥) → (frame_rule s f from to).sent ≡ None
 unfolding frame_rule moved unless heard
 frame_silent s f from to o =
     let k : Struck = failed (acknowledge s from (number_of f)) (failing_of f) in
@@ -170,6 +164,6 @@ frame_silent s f from to o =
     pick_keeps Silent _ _ _ (pick_keeps Silent _ _ _ (ap (λ (a : Answer). a.sent) (respond_elsewhere k from to f elsewhere)) refl) refl
 
 -- a queue call
-pub queue_silent : (s : Station) (q : Request) → (queue_rule s q).sent ≡ Nothing
+pub queue_silent : (s : Station) (q : Request) → (queue_rule s q).sent ≡ None
 unfolding queue_rule moved unless accepted
 queue_silent s q = pick_keeps Silent _ _ _ (pick_keeps Silent _ _ _ refl refl) refl

@@ -11,8 +11,7 @@ use lib.Seq.{get_or-set_other}
 use borrow.Author.Tests.{eq-eqb, ne_eqb, eqb-true, eqb-false}
 use Rattle.parts.specs.Live.{live_at, without}
 use Rattle.parts.specs.declared.live.Live.{Live}
-use Rattle.parts.specs.declared.frame.Whom.{Whom}
-use Rattle.parts.specs.declared.frame.Whom.TheVariants.{Nobody, Member}
+use Rattle.std.specs.Prelude.{Option, None, Some}
 use Rattle.parts.specs.declared.frame.Frame.{Frame}
 use Rattle.station.specs.Heard.{frame_rule}
 use Rattle.station.specs.declared.station.Station.{Station}
@@ -73,15 +72,15 @@ module _ (p q : ℕ) where
   sent_behind ls rows = append_says ls (sent_lines rows) ∙ ap (λ (b : Bool). struck_by p q ls || b) (sent_says rows) ∙ or-false (struck_by p q ls)
 
   -- by another than q
-  pub other_says : (w : Whom) (i : ℕ) → (q ≡ i → ⊥) → struck_by p q (struck_line w i) ≡ false
+  pub other_says : (w : Option ℕ) (i : ℕ) → (q ≡ i → ⊥) → struck_by p q (struck_line w i) ≡ false
   unfolding struck_by says_struck struck_line
-  other_says Nobody i o = refl
-  other_says (Member a) i o =
+  other_says None i o = refl
+  other_says (Some a) i o =
       or-false (eqb a p && eqb i q) ∙ ap (λ (b : Bool). eqb a p && b) (ne_eqb i q (λ e. o (sym e))) ∙ and-false (eqb a p)
 
-  pub nobody_says : (w : Whom) (i : ℕ) → w ≡ Nobody → struck_by p q (struck_line w i) ≡ false
+  pub nobody_says : (w : Option ℕ) (i : ℕ) → w ≡ None → struck_by p q (struck_line w i) ≡ false
   unfolding struck_by struck_line
-  nobody_says w i e = ap (λ (v : Whom). struck_by p q (struck_line v i)) e
+  nobody_says w i e = ap (λ (v : Option ℕ). struck_by p q (struck_line v i)) e
 
   -- by nobody
   pub queued_says : (number : ℕ) → struck_by p q (queued number ∷ []) ≡ false
@@ -97,7 +96,7 @@ module _ (p q : ℕ) where
 abbrev pub LiveLeft : Station → Answer → Type 0
 LiveLeft s a = (p q : ℕ) → live_at a.station.live p ≡ (live_at s.live p && not (struck_by p q (struck_line a.struck q)))
 
-without_is : (l : Live) (r p q : ℕ) → live_at (without l r) p ≡ (live_at l p && not (struck_by p q (struck_line (Member r) q)))
+without_is : (l : Live) (r p q : ℕ) → live_at (without l r) p ≡ (live_at l p && not (struck_by p q (struck_line (Some r) q)))
 unfolding struck_by says_struck struck_line
 without_is l r p q = go (eqb r p) refl
   where
@@ -113,22 +112,22 @@ without_is l r p q = go (eqb r p) refl
         get_or-set_other l.on r p false false (λ x. eqb-false r p e (sym x))
         ∙ sym (ap (λ (c : Bool). live_at l p && not c) (says false e) ∙ and-true (live_at l p))
 
-kept_is : (a : Bool) (p q : ℕ) → a ≡ (a && not (struck_by p q (struck_line Nobody q)))
+kept_is : (a : Bool) (p q : ℕ) → a ≡ (a && not (struck_by p q (struck_line None q)))
 unfolding struck_by struck_line
 kept_is a p q = sym (and-true a)
 
 pub strikes_leave : (s : Station) (a : Answer) (may : ℕ → Type 0) → Strikes s a may → LiveLeft s a
 strikes_leave s a may h p q = go a.struck refl
   where
-    go : (w : Whom) → a.struck ≡ w → live_at a.station.live p ≡ (live_at s.live p && not (struck_by p q (struck_line a.struck q)))
-    go Nobody e =
+    go : (w : Option ℕ) → a.struck ≡ w → live_at a.station.live p ≡ (live_at s.live p && not (struck_by p q (struck_line a.struck q)))
+    go None e =
         ap (λ (l : Live). live_at l p) (h.nobody_leaves e)
         ∙ kept_is (live_at s.live p) p q
-        ∙ ap (λ (w : Whom). live_at s.live p && not (struck_by p q (struck_line w q))) (sym e)
-    go (Member r) e =
+        ∙ ap (λ (w : Option ℕ). live_at s.live p && not (struck_by p q (struck_line w q))) (sym e)
+    go (Some r) e =
         ap (λ (l : Live). live_at l p) (h.told_leaves r e)
         ∙ without_is s.live r p q
-        ∙ ap (λ (w : Whom). live_at s.live p && not (struck_by p q (struck_line w q))) (sym e)
+        ∙ ap (λ (w : Option ℕ). live_at s.live p && not (struck_by p q (struck_line w q))) (sym e)
 
 pub nobody_leaves : (s : Station) (a : Answer) → StrikesNobody s a → LiveLeft s a
 nobody_leaves s a k p q =

@@ -13,8 +13,8 @@ use Rattle.parts.specs.Choose.{pick}
 use Rattle.station.specs.Stations.{moved}
 use Rattle.station.specs.Queue.{queue_rule}
 use Rattle.station.specs.Timer.{timer_rule}
-use Rattle.parts.specs.declared.frame.Dispatch.{Dispatch}
-use Rattle.parts.specs.declared.frame.Dispatch.TheVariants.{Nothing, Sent}
+use Rattle.parts.specs.Frames.{Dispatch}
+use Rattle.std.specs.Prelude.{None, Some}
 use Rattle.parts.specs.declared.request.Request.{Request}
 use Rattle.station.specs.declared.station.Station.{Station}
 use Rattle.station.specs.declared.station.Answer.{Answer}
@@ -184,14 +184,14 @@ past_queue q = record { same = refl; silent = refl }
 timer_room : (wire : List Flying) (p : ℕ) (sent : Dispatch) → length wire ≤ most_frames → pick {A = ℕ} (is_sent sent && leb most_frames (length wire)) 36 0 ≡ 0
     → length (wire ++ joining p sent) ≤ most_frames
 unfolding joining pick
-timer_room wire p Nothing few z = omega (arith, length-append wire (joining p Nothing))
-timer_room wire p (Sent f to) few z = go (leb most_frames (length wire)) refl z
+timer_room wire p None few z = omega (arith, length-append wire (joining p None))
+timer_room wire p (Some (f, to)) few z = go (leb most_frames (length wire)) refl z
   where
-    go : (t : Bool) → leb most_frames (length wire) ≡ t → pick {A = ℕ} t 36 0 ≡ 0 → length (wire ++ joining p (Sent f to)) ≤ most_frames
+    go : (t : Bool) → leb most_frames (length wire) ≡ t → pick {A = ℕ} t 36 0 ≡ 0 → length (wire ++ joining p (Some (f, to))) ≤ most_frames
     go true x y = absurd (omega arith)
-    go false x y = omega (arith, length-append wire (joining p (Sent f to)), leb-false most_frames (length wire) x)
+    go false x y = omega (arith, length-append wire (joining p (Some (f, to))), leb-false most_frames (length wire) x)
 
-queue_room : (wire : List Flying) (p : ℕ) (sent : Dispatch) → sent ≡ Nothing → length wire ≤ most_frames → length (wire ++ joining p sent) ≤ most_frames
+queue_room : (wire : List Flying) (p : ℕ) (sent : Dispatch) → sent ≡ None → length wire ≤ most_frames → length (wire ++ joining p sent) ≤ most_frames
 queue_room wire p sent e few = omega (arith, length-append wire (joining p sent), ap length (ap (joining p) e ∙ none_joins p))
 
 pub record_whole : {n limit : ℕ} → n ≤ 64 → (d : Day) (e : Event) → event_number d e ≡ 0 → WholeDay n limit d → WholeDay n limit (after_record d e)

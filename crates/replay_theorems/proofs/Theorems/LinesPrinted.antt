@@ -5,8 +5,7 @@ use mathlib.Core.List.{List, [], ◌∷◌, ◌++◌, append_assoc, append-nil}
 use Prim.Native.Nat.{ℕ, suc}
 use Rattle.station.specs.Queue.{queue_rule}
 use Rattle.parts.specs.declared.frame.Frame.{Frame}
-use Rattle.parts.specs.declared.frame.Whom.{Whom}
-use Rattle.parts.specs.declared.frame.Whom.TheVariants.{Nobody, Member}
+use Rattle.std.specs.Prelude.{Option, None, Some}
 use Rattle.station.specs.declared.station.Station.{Station}
 use Rattle.station.specs.declared.station.Answer.{Answer}
 use Rattle.bench.specs.Delivery.{handed}
@@ -42,10 +41,10 @@ joined {t} {u} ls ms a b = ap (λ (x : List ℕ). x ++ u) a ∙ ap (λ (x : List
 
 -- ---- one record
 
-struck_printed : (w : Whom) (q : ℕ) → struck_text w q ≡ lines_text (struck_line w q)
+struck_printed : (w : Option ℕ) (q : ℕ) → struck_text w q ≡ lines_text (struck_line w q)
 unfolding struck_line lines_text line_text struck_text
-struck_printed Nobody q = refl
-struck_printed (Member p) q = sym (append-nil _)
+struck_printed None q = refl
+struck_printed (Some p) q = sym (append-nil _)
 
 sent_printed : (rows : List Row) → rows_text rows ≡ lines_text (sent_lines rows)
 unfolding rows_text sent_lines lines_text line_text

@@ -8,7 +8,7 @@ use native.Mathlib.Omega.{arith}
 use lib.Dec.{ltb}
 use lib.ListN.{length}
 use borrow.Author.Tests.{ltb-true, ltb-false}
-use Rattle.parts.specs.declared.frame.Dispatch.TheVariants.{Nothing}
+use Rattle.std.specs.Prelude.{None}
 use Rattle.station.specs.declared.station.Answer.{Answer}
 use Rattle.bench.proofs.Laws.Delivered.{handed_outside}
 use Rattle.capture.specs.declared.record.Event.{Event}
@@ -41,12 +41,12 @@ unfolding take_frame
 one_taken e d f rest = refl
 
 module _ {n limit : ℕ} {d : Day} (w : WholeDay n limit d) (most : n ≤ 64) where
-  silent : (hears : ℕ → Bool) (f : Flying) (p : ℕ) → (p ≡ f.to → ⊥) → (answer_of hears d f p).sent ≡ Nothing
+  silent : (hears : ℕ → Bool) (f : Flying) (p : ℕ) → (p ≡ f.to → ⊥) → (answer_of hears d f p).sent ≡ None
   silent hears f p o = go (ltb p n) refl
     where
-      go : (t : Bool) → ltb p n ≡ t → (answer_of hears d f p).sent ≡ Nothing
+      go : (t : Bool) → ltb p n ≡ t → (answer_of hears d f p).sent ≡ None
       go true x =
-          handed_keeps (λ (a : Answer). a.sent ≡ Nothing) d.n hears f.frame f.from f.to p (member_at d p)
+          handed_keeps (λ (a : Answer). a.sent ≡ None) d.n hears f.frame f.from f.to p (member_at d p)
           (frame_silent (member_at d p) f.frame f.from f.to (λ e. o (sym (e ∙ (w.members p (ltb-true p n x)).own))))
           refl
       go false x =

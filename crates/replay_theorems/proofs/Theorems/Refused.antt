@@ -8,8 +8,8 @@ use lib.ListN.{length, set}
 use lib.Seq.{set-get_or}
 use Rattle.parts.specs.Choose.{pick}
 use Rattle.station.specs.Queue.{queue_rule}
-use Rattle.parts.specs.declared.frame.Whom.{Whom}
-use Rattle.parts.specs.declared.frame.Dispatch.{Dispatch}
+use Rattle.std.specs.Prelude.{Option}
+use Rattle.parts.specs.Frames.{Dispatch}
 use Rattle.parts.specs.declared.request.Request.{Request}
 use Rattle.station.specs.declared.station.Station.{Station}
 use Rattle.station.specs.declared.station.Answer.{Answer}
@@ -39,7 +39,7 @@ call_same d p a h =
 call_prints : (p : ℕ) (a : Answer) (s : Station) → NothingDone s a → timer_text p a ≡ []
 unfolding timer_text struck_text row_on rows_text
 call_prints p a s h =
-    ap (λ (w : Whom). struck_text w p ++ rows_text (row_on p a.sent)) h.nobody_struck
+    ap (λ (w : Option ℕ). struck_text w p ++ rows_text (row_on p a.sent)) h.nobody_struck
     ∙ ap (λ (d : Dispatch). rows_text (row_on p d)) h.no_frame
 
 sends_nothing : (d : Day) (a : Answer) (s : Station) → NothingDone s a → pick {A = ℕ} (is_sent a.sent && leb most_frames (length d.wire)) 36 0 ≡ 0

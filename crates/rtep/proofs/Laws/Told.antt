@@ -7,7 +7,7 @@ use native.Mathlib.Omega.{arith}
 use borrow.Author.Tests.{ne_eqb}
 use lib.Dec.{ltb}
 use lib.ListN.{length}
-use Rattle.rtep.specs.declared.Made.TheVariants.{Nothing}
+use Rattle.std.specs.Prelude.{None}
 use Rattle.rtep.specs.Told.{made_refusal, WriteTold}
 
 refused : (b : Bool) → ◌≡◌ {A = ℕ} (cond b 9 12) 0 → ⊥
@@ -15,7 +15,7 @@ refused true e = omega arith
 refused false e = omega arith
 
 -- what is no packet is refused, and nothing changes
-pub nothing_told : (ring info out told : List ℕ) (r : ℕ) → r ≡ made_refusal [] Nothing 0 (length out) → WriteTold ring Nothing info out told r out told
+pub nothing_told : (ring info out told : List ℕ) (r : ℕ) → r ≡ made_refusal [] None 0 (length out) → WriteTold ring None info out told r out told
 unfolding made_refusal
 nothing_told ring info out told r e =
     let n : r ≡ 0 → ⊥ = λ z. refused (ltb (length out) 1500) (sym e ∙ z) in

@@ -7,10 +7,9 @@ use lib.ListN.{length}
 use Rattle.codec.specs.Ring.{read_ring}
 use Rattle.parts.specs.Messages.{all}
 use Rattle.parts.specs.declared.list.Messages.{Messages}
-use Rattle.parts.specs.declared.frame.Whom.{Whom}
-use Rattle.parts.specs.declared.frame.Dispatch.{Dispatch}
-use Rattle.station.specs.declared.station.Payload.{Payload}
-use Rattle.station.specs.declared.station.Payload.TheVariants.{NoPayload, Of}
+use Rattle.std.specs.Prelude.{Option, None, Some}
+use Rattle.parts.specs.declared.list.Message.{Message}
+use Rattle.parts.specs.Frames.{Dispatch}
 use Rattle.packet_codec.specs.declared.packet.Packet.{Packet}
 use Rattle.packet_codec.specs.declared.packet.Packet.TheVariants.{Token, Transmit, Information}
 use Rattle.records.proofs.Laws.Tables.{length_joined}
@@ -29,13 +28,13 @@ pub file_most : (file : List ℕ) → (read_ring file).number ≡ 0 → length f
 file_most file good = file_fits file good
 
 -- a call that gives up 16 messages, which is the most, tells as many numbers as are lent
-pub told_fills : (ring : List ℕ) (sent : Dispatch) (struck : Whom) (gone : Messages) → length (all gone) ≡ 16 → length (told_of ring sent struck gone) ≡ told_numbers
+pub told_fills : (ring : List ℕ) (sent : Dispatch) (struck : Option ℕ) (gone : Messages) → length (all gone) ≡ 16 → length (told_of ring sent struck gone) ≡ told_numbers
 told_fills ring sent struck gone e = ap (λ (n : ℕ). suc (suc (suc (suc n)))) (length_joined (message_told ring) 5 (λ m. refl) (all gone) ∙ ap (λ (n : ℕ). n * 5) e)
 
-pub taken_fills : (ring : List ℕ) (p : Payload) → length (taken_told ring p) ≡ taken_numbers
+pub taken_fills : (ring : List ℕ) (p : Option Message) → length (taken_told ring p) ≡ taken_numbers
 unfolding taken_told
-taken_fills ring NoPayload = refl
-taken_fills ring (Of m) = refl
+taken_fills ring None = refl
+taken_fills ring (Some m) = refl
 
 pub packet_fills : (p : Packet) → length (values_of p) ≡ packet_numbers
 unfolding values_of

@@ -4,4 +4,4 @@ use Rattle.parts.proofs.Laws.Live.{seats_most}
 use Rattle.rtep_replay.proofs.stations.Goals as goal
 
 pub put_station-used-requires : goal.put_station-used-requires
-put_station-used-requires g c = (omega (arith, seats_most c.args.r.n, c.seats-n.ensures, c.loop-p-test.true), search rules)
+put_station-used-requires g c = (omega (arith, seats_most c.args.replay.n, c.seats-p-end.ensures, c.loop-p-test.true), search rules)

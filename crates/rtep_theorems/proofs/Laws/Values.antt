@@ -19,8 +19,7 @@ use Rattle.packet_codec.specs.declared.fields.Looked.TheVariants.{Sound}
 use Rattle.packet_codec.specs.Packet.{size, information_length, head_octets, packet_octets, write_tests, Fit}
 use Rattle.packet_codec.proofs.Laws.Packet.{write_apart, fit_length}
 use Rattle.packet_codec.specs.Typed.{Typed, TypedPacket}
-use Rattle.rtep.specs.declared.Made.{Made}
-use Rattle.rtep.specs.declared.Made.TheVariants.{Nothing, Packet as Of}
+use Rattle.std.specs.Prelude.{Option, None, Some}
 use Rattle.rtep.specs.Told.{values_of, short_tests, short_made, head_tests, head_made, start_tests, made_of}
 
 -- ---- a list of eight
@@ -41,7 +40,7 @@ pub record Numbered (v : List ℕ) (p : Packet) : Type 0 where
   pub values : values_of p ≡ v
   pub typed : TypedPacket p
 
-some_packet : (p : Packet) → Nothing ≡ Of p → ⊥
+some_packet : (p : Packet) → None ≡ Some p → ⊥
 some_packet p e = let z : ◌≡◌ {A = ℕ} 0 1 = cc in omega arith
 
 module _ (identifier priority number master failing named channel long : ℕ) (p : Packet) where
@@ -55,16 +54,16 @@ module _ (identifier priority number master failing named channel long : ℕ) (p
   head = record { priority = priority; number = number; channel = channel; length = long }
 
   short_numbered : Typed priority number → 1 ≤ identifier → identifier ≤ 3 → (identifier ≡ 3 → ⊥)
-      → short_made identifier priority number master failing named channel long ≡ Of p → Numbered v p
+      → short_made identifier priority number master failing named channel long ≡ Some p → Numbered v p
   unfolding short_made values_of
   short_numbered t low high other e =
-      let one : Made = cond (eqb identifier 1) (Of (Token short)) (Of (Transmit short)) in
-      let n = none_gives one (Of p) (short_tests channel long) (some_packet p, (some_packet p, tt)) e in
+      let one : (Option Packet) = cond (eqb identifier 1) (Some (Token short)) (Some (Transmit short)) in
+      let n = none_gives one (Some p) (short_tests channel long) (some_packet p, (some_packet p, tt)) e in
       let c : channel ≡ 0 = eqb-true _ _ (not-false _ n.0) in
       let l : long ≡ 0 = eqb-true _ _ (not-false _ n.1.0) in
       go c l (eqb identifier 1) refl (sym (first_passed one (short_tests channel long) n) ∙ e)
     where
-      go : channel ≡ 0 → long ≡ 0 → (b : Bool) → eqb identifier 1 ≡ b → cond b (Of (Token short)) (Of (Transmit short)) ≡ Of p → Numbered v p
+      go : channel ≡ 0 → long ≡ 0 → (b : Bool) → eqb identifier 1 ≡ b → cond b (Some (Token short)) (Some (Transmit short)) ≡ Some p → Numbered v p
       go c l true i e' =
           let is : Token short ≡ p = cc (e') in
           let one : identifier ≡ 1 = eqb-true _ _ i in
@@ -74,25 +73,25 @@ module _ (identifier priority number master failing named channel long : ℕ) (p
           let two : identifier ≡ 2 = omega (arith, eqb-false identifier 1 i) in
           subst (Numbered v) is (record { values = cc; typed = t })
 
-  head_numbered : Typed priority number → identifier ≡ 3 → head_made priority number master failing named channel long ≡ Of p → Numbered v p
+  head_numbered : Typed priority number → identifier ≡ 3 → head_made priority number master failing named channel long ≡ Some p → Numbered v p
   unfolding head_made values_of
   head_numbered t id e =
-      let n = none_gives (Of (Information head)) (Of p) (head_tests master failing named channel long)
+      let n = none_gives (Some (Information head)) (Some p) (head_tests master failing named channel long)
       (some_packet p, (some_packet p, (some_packet p, (some_packet p, (some_packet p, tt))))) e in
       let a : master ≡ 0 = eqb-true _ _ (not-false _ n.0) in
       let b : failing ≡ 0 = eqb-true _ _ (not-false _ n.1.0) in
       let c : named ≡ 0 = eqb-true _ _ (not-false _ n.1.1.0) in
-      let made : Of (Information head) ≡ Of p = sym (first_passed (Of (Information head)) (head_tests master failing named channel long) n) ∙ e in
+      let made : Some (Information head) ≡ Some p = sym (first_passed (Some (Information head)) (head_tests master failing named channel long) n) ∙ e in
       let is : Information head ≡ p = cc (made) in
       subst (Numbered v) is (record { values = cc; typed = t })
 
-  all_numbered : made_of v ≡ Of p → Numbered v p
+  all_numbered : made_of v ≡ Some p → Numbered v p
   unfolding made_of
   all_numbered e =
-      let made : Made =
+      let made : (Option Packet) =
       cond (eqb identifier 3) (head_made priority number master failing named channel long)
       (short_made identifier priority number master failing named channel long) in
-      let n = none_gives made (Of p) (start_tests identifier priority number) (some_packet p, (some_packet p, (some_packet p, (some_packet p, tt)))) e in
+      let n = none_gives made (Some p) (start_tests identifier priority number) (some_packet p, (some_packet p, (some_packet p, (some_packet p, tt)))) e in
       let low : 1 ≤ identifier = ltb-false _ _ n.0 in
       let high : identifier ≤ 3 = ltb-false _ _ n.1.0 in
       let a : priority ≤ 255 = ltb-false _ _ n.1.1.0 in
@@ -101,12 +100,12 @@ module _ (identifier priority number master failing named channel long : ℕ) (p
       go t low high (eqb identifier 3) refl (sym (first_passed made (start_tests identifier priority number) n) ∙ e)
     where
       go : Typed priority number → 1 ≤ identifier → identifier ≤ 3 → (b : Bool) → eqb identifier 3 ≡ b
-          → cond b (head_made priority number master failing named channel long) (short_made identifier priority number master failing named channel long) ≡ Of p
+          → cond b (head_made priority number master failing named channel long) (short_made identifier priority number master failing named channel long) ≡ Some p
           → Numbered v p
       go t low high true i e' = head_numbered t (eqb-true _ _ i) e'
       go t low high false i e' = short_numbered t low high (eqb-false _ _ i) e'
 
-pub numbered : (v : List ℕ) (p : Packet) → length v ≡ 8 → made_of v ≡ Of p → Numbered v p
+pub numbered : (v : List ℕ) (p : Packet) → length v ≡ 8 → made_of v ≡ Some p → Numbered v p
 numbered v p long e =
     let all = eight v long in
     subst (λ (l : List ℕ). Numbered l p) (sym all) (all_numbered _ _ _ _ _ _ _ _ p (ap made_of (sym all) ∙ e))
@@ -118,7 +117,7 @@ channel_fits ring h info e =
     let n = none_holds Sound (write_tests ring (Information h) (length info)) (write_apart ring (Information h) (length info)) e in
     ltb-false _ _ n.1.0
 
-pub made_again : (ring : List ℕ) (p : Packet) (info : List ℕ) → TypedPacket p → Fit ring p info → made_of (values_of p) ≡ Of p
+pub made_again : (ring : List ℕ) (p : Packet) (info : List ℕ) → TypedPacket p → Fit ring p info → made_of (values_of p) ≡ Some p
 unfolding made_of short_made head_made values_of
 made_again ring (Token p) info t e =
     let a : p.priority ≤ 255 = omega (arith, t.priority_fits) in

@@ -16,8 +16,7 @@ use Rattle.packet_codec.specs.declared.reading.Read.TheVariants.{Good}
 use Rattle.packet_codec.specs.Packet.{information_length, information_in, packet_octets, write_tests, write_refusal, is_bad, Fit, read_packet, read_number}
 use Rattle.packet_codec.proofs.Laws.Packet.{sound_of}
 use Rattle.packet_codec.proofs.Theorems.ReadWrite as packets
-use Rattle.rtep.specs.declared.Made.{Made}
-use Rattle.rtep.specs.declared.Made.TheVariants.{Nothing, Packet as Of}
+use Rattle.std.specs.Prelude.{Option, None, Some}
 use Rattle.rtep.specs.Told.{read_told, ReadTold, made_of, made_refusal, WriteTold}
 use Rattle.rtep_theorems.specs.Numbers.{written, information_of}
 use Rattle.rtep_theorems.proofs.Laws.Values.{Numbered, numbered, length_told, length_packet}
@@ -25,7 +24,7 @@ use Rattle.rtep_theorems.specs.RoundTrip.{ReadBack}
 
 -- ---- what a write that gives 0 says
 
-nothing_refused : (ring info out told out' told' : List ℕ) → WriteTold ring Nothing info out told 0 out' told' → ⊥
+nothing_refused : (ring info out told out' told' : List ℕ) → WriteTold ring None info out told 0 out' told' → ⊥
 unfolding made_refusal
 nothing_refused ring info out told out' told' w = go (ltb (length out) 1500) w.answer
   where
@@ -33,7 +32,7 @@ nothing_refused ring info out told out' told' w = go (ltb (length out) 1500) w.a
     go true e = omega arith
     go false e = omega arith
 
-write_fit : (ring : List ℕ) (p : Packet) (info out told out' told' : List ℕ) → WriteTold ring (Of p) info out told 0 out' told' → Fit ring p info
+write_fit : (ring : List ℕ) (p : Packet) (info out told out' told' : List ℕ) → WriteTold ring (Some p) info out told 0 out' told' → Fit ring p info
 unfolding made_refusal write_refusal
 write_fit ring p info out told out' told' w =
     let ts : List (Bool × ℕ) = (ltb (length out) 1500, 9) ∷ (is_bad (first_of Sound (write_tests ring p (length info))), 12) ∷ [] in
@@ -48,9 +47,9 @@ pub read_after_write : (ring values information out sizes out' sizes' : List ℕ
     → ReadBack values information (written out' sizes') r told'
 read_after_write ring values info out sizes out' sizes' long w told r told' read = go (made_of values) refl w
   where
-    go : (m : Made) → made_of values ≡ m → WriteTold ring m info out sizes 0 out' sizes' → ReadBack values info (written out' sizes') r told'
-    go Nothing e d = absurd (nothing_refused ring info out sizes out' sizes' d)
-    go (Of p) e d =
+    go : (m : Option Packet) → made_of values ≡ m → WriteTold ring m info out sizes 0 out' sizes' → ReadBack values info (written out' sizes') r told'
+    go None e d = absurd (nothing_refused ring info out sizes out' sizes' d)
+    go (Some p) e d =
         let fit : Fit ring p info = write_fit ring p info out sizes out' sizes' d in
         let k : Numbered values p = numbered values p long e in
         let s : List ℕ = packet_octets p info in

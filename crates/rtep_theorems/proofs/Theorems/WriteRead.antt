@@ -17,15 +17,14 @@ use Rattle.packet_codec.specs.declared.reading.Read.TheVariants.{Good}
 use Rattle.packet_codec.specs.Packet.{longest_packet, size, wire_octets, information_in, information_part, packet_of, packet_octets, write_tests, write_refusal, is_bad, Fit, read_packet, kept}
 use Rattle.packet_codec.proofs.Laws.Packet.{read_good}
 use Rattle.packet_codec.proofs.Theorems.WriteRead as packets
-use Rattle.rtep.specs.declared.Made.{Made}
-use Rattle.rtep.specs.declared.Made.TheVariants.{Packet as Of}
+use Rattle.std.specs.Prelude.{Option, Some}
 use Rattle.rtep.specs.Told.{values_of, read_told, ReadTold, made_of, made_refusal, WriteTold}
 use Rattle.rtep_theorems.specs.Numbers.{information_of}
 use Rattle.rtep_theorems.proofs.Laws.Values.{made_again, length_told, length_packet}
 use Rattle.rtep_theorems.specs.RoundTrip.{WriteBack}
 
 -- a packet that is fit is not refused
-not_refused : (ring : List ℕ) (p : Packet) (info : List ℕ) (room : ℕ) → Fit ring p info → longest_packet ≤ room → made_refusal ring (Of p) (length info) room ≡ 0
+not_refused : (ring : List ℕ) (p : Packet) (info : List ℕ) (room : ℕ) → Fit ring p info → longest_packet ≤ room → made_refusal ring (Some p) (length info) room ≡ 0
 unfolding made_refusal write_refusal
 not_refused ring p info room fit h =
     first_passed 0 ((ltb room 1500, 9) ∷ (is_bad (first_of Sound (write_tests ring p (length info))), 12) ∷ []) (le-ltb _ _ h, (ap is_bad fit, tt))
@@ -41,10 +40,10 @@ write_after_read ring packet told told' o read out sizes r out' sizes' room w =
     let good : read_packet ring packet ≡ Good p = read_good ring packet (sym read.answer) in
     let a = packets.write_after_read ring packet p o good in
     let values : told' ≡ values_of p = read.told_is ∙ ap (λ (x : Read). read_told x told) good in
-    let made : made_of told' ≡ Of p = ap made_of values ∙ made_again ring p info a.typed a.fit in
+    let made : made_of told' ≡ Some p = ap made_of values ∙ made_again ring p info a.typed a.fit in
     let part : information_of packet told' ≡ info = ap (information_in packet) (ap (λ (l : List ℕ). get_or l 7 0) values ∙ length_told p) in
-    let d : WriteTold ring (Of p) info out sizes r out' sizes' =
-    subst (λ (m : Made). WriteTold ring m info out sizes r out' sizes') made
+    let d : WriteTold ring (Some p) info out sizes r out' sizes' =
+    subst (λ (m : Option Packet). WriteTold ring m info out sizes r out' sizes') made
     (subst (λ (l : List ℕ). WriteTold ring (made_of told') l out sizes r out' sizes') part w) in
     let zero : r ≡ 0 = d.answer ∙ not_refused ring p info (length out) a.fit room in
     let all : out' ≡ laid out 0 packet =

@@ -1,276 +1,138 @@
 -- Laws of a line's shape: what its word and the numbers behind it say. Assumes nothing.
-use mathlib.Core.Path.{◌≡◌, refl, sym, ap, ◌∙◌}
-use mathlib.Core.Bool.{Bool, true, false, cond, ◌&&◌, false≢true}
-use mathlib.Core.List.{List, [], ◌∷◌}
-use Prim.Native.Nat.{ℕ, suc, ◌+◌, ◌<◌, ◌≤◌}
-use native.Mathlib.Omega.{arith}
-use lib.Dec.{ltb}
-use lib.ListN.{length, get_or, take, drop}
-use lib.Seq.{length-take-le}
-use borrow.Author.Tests.{lt-ltb, le-ltb, ltb-true, ltb-false, leb-true, eq-eqb, eqb-true}
-use Rattle.parts.specs.Choose.{pick, every}
-use Rattle.parts.proofs.Laws.Choose.{pick_true, pick_false, pick_and}
-use Rattle.script.specs.Lines.{words_behind, first_word, is_number, value, value_at, same, shaped, ring_word, queue_word, step_word, request_in, line_of_words, line_of, number_or, joined, joined_all, no_numbers, numbers_of}
-use Rattle.script.specs.declared.lines.Numbers.{Numbers}
-use Rattle.script.specs.declared.lines.Line.{Line}
-use Rattle.script.specs.declared.lines.Line.TheVariants.{Ring, Queue, Step, Bad}
+use Rattle.std.proofs.Common.{◌≡◌, ℕ, suc, ◌+◌, ◌<◌, Bool, true, false, cond, List, [], ◌∷◌, ◌++◌, ◌&&◌, map, length, get_or, Some, None, refl, sym, ap, ◌∙◌, arith}
+use Rattle.std.specs.List.{list_all}
+use Rattle.std.specs.Str.{bytes_eq}
+use Rattle.std.proofs.lemmas.Bool.{false≢true, eq-eqb, eqb-true}
+use Rattle.std.proofs.Math.Bool.{and-false}
+use Rattle.std.proofs.lemmas.Option.{none-some, same_Some}
+use Rattle.std.proofs.lemmas.List.{get_or-map, length-map, length-append, map-append}
+use Rattle.std.proofs.lemmas.List.Folds.{list_all-append}
+use Rattle.parts.specs.Choose.{pick}
 use Rattle.parts.proofs.Laws.Tests.{held, hold}
-use Rattle.script.proofs.Laws.Words.{first_short, words_first, first_taken}
+use Rattle.script.specs.Lines.{is_number, value, number_in, shaped, ring_word, queue_word, step_word, line_of_words}
+use Rattle.script.specs.declared.lines.Line.TheVariants.{Ring, Queue, Step}
 
 -- ---- a test in a row of answers
 
 module _ {A : Type 0} {b : Bool} (x y : A) where
-  cond_yes : b ≡ true → cond b x y ≡ x
-  cond_yes e = rw e
+  yes : b ≡ true → cond b x y ≡ x
+  yes e = rw e
 
-  cond_no : b ≡ false → cond b x y ≡ y
-  cond_no e = rw e
+  no : b ≡ false → cond b x y ≡ y
+  no e = rw e
 
 never : (b : Bool) → (b ≡ true → ⊥) → b ≡ false
 never true n = absurd (n refl)
 never false n = refl
 
-not_both : {b : Bool} → b ≡ true → b ≡ false → ⊥
-not_both p q = false≢true (sym q ∙ p)
-
-and_both : (b c : Bool) → (b && c) ≡ true → (b ≡ true) × (c ≡ true)
-and_both true c e = (refl, e)
-and_both false c e = absurd (false≢true e)
-
--- ---- one number
-
-module _ (w : List ℕ) where
-  pub number_value : is_number w ≡ true → number_or w ≡ value w
-  unfolding number_or
-  number_value e = pick_true _ _ e
-
-  number_small : is_number w ≡ true → number_or w < 65536
-  unfolding is_number
-  number_small e =
-      let h : value w ≤ 65535 = leb-true (value w) 65535 (held _ e).1.1.1.0 in
-      omega (arith, number_value e)
-
-  small_number : number_or w < 65536 → is_number w ≡ true
-  unfolding number_or
-  small_number h = go (is_number w) refl
-    where
-      go : (b : Bool) → is_number w ≡ b → is_number w ≡ true
-      go true e = e
-      go false e = let z : pick (is_number w) (value w) 65536 ≡ 65536 = pick_false _ _ e in absurd (omega (arith, h))
-
-  -- it has at most five digits
-  pub number_short : is_number w ≡ true → length w ≤ 5
-  unfolding is_number
-  number_short e = leb-true (length w) 5 (held _ e).1.0
-
--- ---- the numbers joined
-
-module _ (n : Numbers) (v : ℕ) where
-  joined_room : n.count < 5 → (joined n v).count ≡ n.count + 1
-  unfolding joined
-  joined_room h = ap (λ (m : Numbers). m.count) (pick_true _ _ (lt-ltb n.count 5 h))
-
-  joined_full : 5 ≤ n.count → (joined n v).good ≡ false
-  unfolding joined
-  joined_full h = ap (λ (m : Numbers). m.good) (pick_false _ _ (le-ltb n.count 5 h))
-
-  joined_test : n.count < 5 → (joined n v).good ≡ (n.good && ltb v 65536)
-  unfolding joined
-  joined_test h = ap (λ (m : Numbers). m.good) (pick_true _ _ (lt-ltb n.count 5 h))
-
-  joined_good : (joined n v).good ≡ true → (n.good ≡ true) × (v < 65536) × (n.count < 5)
-  joined_good e = go (ltb n.count 5) refl
-    where
-      go : (b : Bool) → ltb n.count 5 ≡ b → (n.good ≡ true) × (v < 65536) × (n.count < 5)
-      go true t =
-          let h : n.count < 5 = ltb-true n.count 5 t in
-          let w : (n.good && ltb v 65536) ≡ true = sym (joined_test h) ∙ e in
-          ((and_both n.good (ltb v 65536) w).0, ltb-true v 65536 (and_both n.good (ltb v 65536) w).1, h)
-      go false t = absurd (not_both e (joined_full (omega (arith, ltb-false n.count 5 t))))
-
-join_none : (n : Numbers) → joined_all n [] ≡ n
-unfolding joined_all
-join_none n = refl
-
-join_word : (n : Numbers) (w : List ℕ) (ws : List (List ℕ)) → joined_all n (w ∷ ws) ≡ joined_all (joined n (number_or w)) ws
-unfolding joined_all
-join_word n w ws = refl
-
-every_word : (w : List ℕ) (ws : List (List ℕ)) → is_number w ≡ true → every is_number ws ≡ true → every is_number (w ∷ ws) ≡ true
-unfolding every
-every_word w ws p q = pick_true _ _ p ∙ q
-
-every_none : every is_number [] ≡ true
-unfolding every
-every_none = refl
-
-pub first_number : (w : List ℕ) (ws : List (List ℕ)) → every is_number (w ∷ ws) ≡ true → is_number w ≡ true
-unfolding every
-first_number w ws e = (pick_and e).0
-
-pub rest_numbers : (w : List ℕ) (ws : List (List ℕ)) → every is_number (w ∷ ws) ≡ true → every is_number ws ≡ true
-unfolding every
-rest_numbers w ws e = (pick_and e).1
-
--- what holds where all that was joined is good
-pub record Joined (n : Numbers) (ws : List (List ℕ)) : Type 0 where
-  pub before : n.good ≡ true
-  pub each : every is_number ws ≡ true
-  pub counted : (joined_all n ws).count ≡ n.count + length ws
-
-pub all_joined : (n : Numbers) (ws : List (List ℕ)) → (joined_all n ws).good ≡ true → Joined n ws
-all_joined n [] e =
-    record {
-      before = ap (λ (m : Numbers). m.good) (sym (join_none n)) ∙ e;
-      each = every_none;
-      counted = ap (λ (m : Numbers). m.count) (join_none n) ∙ omega arith;
-    }
-all_joined n (w ∷ ws) e =
-    let i : Joined (joined n (number_or w)) ws = all_joined (joined n (number_or w)) ws (ap (λ (m : Numbers). m.good) (sym (join_word n w ws)) ∙ e) in
-    let g : (n.good ≡ true) × (number_or w < 65536) × (n.count < 5) = joined_good n (number_or w) i.before in
-    record {
-      before = g.0;
-      each = every_word w ws (small_number w g.1) i.each;
-      counted = ap (λ (m : Numbers). m.count) (join_word n w ws) ∙ omega (arith, i.counted, joined_room n (number_or w) g.2);
-    }
-
-pub all_good : (n : Numbers) (ws : List (List ℕ)) → n.good ≡ true → every is_number ws ≡ true → n.count + length ws ≤ 5 → (joined_all n ws).good ≡ true
-all_good n [] g e h = ap (λ (m : Numbers). m.good) (join_none n) ∙ g
-all_good n (w ∷ ws) g e h =
-    let k : n.count < 5 = omega arith in
-    ap (λ (m : Numbers). m.good) (join_word n w ws)
-    ∙ all_good (joined n (number_or w)) ws
-    (joined_test n (number_or w) k ∙ rw (g, lt-ltb (number_or w) 65536 (number_small w (first_number w ws e))))
-    (rest_numbers w ws e) (omega (arith, joined_room n (number_or w) k))
-
 -- ---- the shapes
 
 module _ (w : List ℕ) (k : ℕ) (v : List ℕ) (ws : List (List ℕ)) where
-  pub shaped_is : same v w ≡ true → length ws ≡ k → every is_number ws ≡ true → shaped w k (v ∷ ws) ≡ true
+  shaped_is : bytes_eq v w ≡ true → length ws ≡ k → list_all is_number ws ≡ true → shaped w k (v ∷ ws) ≡ true
   unfolding shaped
   shaped_is s l e = hold _ (s, (eq-eqb (suc (length ws)) (k + 1) (omega arith), (e, tt)))
 
   -- a good shape, taken apart
-  pub shaped_parts : shaped w k (v ∷ ws) ≡ true → (same v w ≡ true) × (length ws ≡ k) × (every is_number ws ≡ true)
+  pub shaped_parts : shaped w k (v ∷ ws) ≡ true → (bytes_eq v w ≡ true) × (length ws ≡ k) × (list_all is_number ws ≡ true)
   unfolding shaped
   shaped_parts e =
       let h = held _ e in
       (h.0, omega (arith, eqb-true (suc (length ws)) (k + 1) h.1.0), h.1.1.0)
 
-  other_word : same v w ≡ false → shaped w k (v ∷ ws) ≡ false
-  other_word n = never _ (λ e. not_both (shaped_parts e).0 n)
+  other_word : bytes_eq v w ≡ false → shaped w k (v ∷ ws) ≡ false
+  other_word n = never _ (λ e. false≢true (sym n ∙ (shaped_parts e).0))
 
   other_count : (length ws ≡ k → ⊥) → shaped w k (v ∷ ws) ≡ false
   other_count n = never _ (λ e. n (shaped_parts e).1)
 
-  not_numbers : (joined_all no_numbers ws).good ≡ false → k ≤ 5 → shaped w k (v ∷ ws) ≡ false
-  not_numbers n h = never _ (λ e. not_both (all_good no_numbers ws refl (shaped_parts e).2 (omega (arith, (shaped_parts e).1))) n)
+  not_numbers : list_all is_number ws ≡ false → shaped w k (v ∷ ws) ≡ false
+  not_numbers n = never _ (λ e. false≢true (sym n ∙ (shaped_parts e).2))
 
-pub no_shape : (ws : List (List ℕ)) → shaped ring_word 1 ws ≡ false → shaped queue_word 5 ws ≡ false → shaped step_word 1 ws ≡ false → line_of_words ws ≡ Bad
+pub no_shape : (ws : List (List ℕ)) → shaped ring_word 1 ws ≡ false → shaped queue_word 5 ws ≡ false → shaped step_word 1 ws ≡ false → None ≡ line_of_words ws
 unfolding line_of_words
-no_shape ws r q s = cond_no _ _ r ∙ cond_no _ _ q ∙ cond_no _ _ s
+no_shape ws r q s = sym (no _ _ r ∙ no _ _ q ∙ no _ _ s)
 
--- ---- the numbers that a good line has
+module _ (v : List ℕ) (ws : List (List ℕ)) where
+  pub bad_numbers : list_all is_number ws ≡ false → None ≡ line_of_words (v ∷ ws)
+  bad_numbers n = no_shape (v ∷ ws) (not_numbers ring_word 1 v ws n) (not_numbers queue_word 5 v ws n) (not_numbers step_word 1 v ws n)
 
-one_value : (v : List ℕ) (ws : List (List ℕ)) → length ws ≡ 1 → every is_number ws ≡ true → value_at (v ∷ ws) 1 ≡ get_or (joined_all no_numbers ws).values 0 0
-unfolding joined_all joined pick
-one_value v [] h e = absurd (omega arith)
-one_value v (a ∷ []) h e = sym (number_value a (first_number a [] e))
-one_value v (a ∷ b ∷ ws) h e = absurd (omega arith)
+  pub bad_count : (length ws ≡ 1 → ⊥) → (length ws ≡ 5 → ⊥) → None ≡ line_of_words (v ∷ ws)
+  bad_count a b = no_shape (v ∷ ws) (other_count ring_word 1 v ws a) (other_count queue_word 5 v ws b) (other_count step_word 1 v ws a)
 
-abbrev queue_of : List ℕ → Line
-queue_of l = Queue (get_or l 0 0) (record { to = get_or l 1 0; priority = get_or l 2 0; channel = get_or l 3 0; length = get_or l 4 0; listens = true })
+  -- the numbers behind the word
+  module _ (ns : List ℕ) (each : list_all is_number ws ≡ true) (are : ns ≡ map value ws) where
+    many : length ns ≡ length ws
+    many = ap length are ∙ length-map ws value
 
-five_values : (v : List ℕ) (ws : List (List ℕ)) → length ws ≡ 5 → every is_number ws ≡ true
-    → Queue (value_at (v ∷ ws) 1) (request_in (v ∷ ws)) ≡ queue_of (joined_all no_numbers ws).values
-unfolding joined_all joined pick
-five_values v [] h e = absurd (omega arith)
-five_values v (a ∷ []) h e = absurd (omega arith)
-five_values v (a ∷ b ∷ []) h e = absurd (omega arith)
-five_values v (a ∷ b ∷ c ∷ []) h e = absurd (omega arith)
-five_values v (a ∷ b ∷ c ∷ d ∷ []) h e = absurd (omega arith)
-five_values v (a ∷ b ∷ c ∷ d ∷ f ∷ []) h e =
-    let e₁ : every is_number (b ∷ c ∷ d ∷ f ∷ []) ≡ true = rest_numbers a (b ∷ c ∷ d ∷ f ∷ []) e in
-    let e₂ : every is_number (c ∷ d ∷ f ∷ []) ≡ true = rest_numbers b (c ∷ d ∷ f ∷ []) e₁ in
-    let e₃ : every is_number (d ∷ f ∷ []) ≡ true = rest_numbers c (d ∷ f ∷ []) e₂ in
-    let e₄ : every is_number (f ∷ []) ≡ true = rest_numbers d (f ∷ []) e₃ in
-    rw (
-      number_value a (first_number a (b ∷ c ∷ d ∷ f ∷ []) e),
-      number_value b (first_number b (c ∷ d ∷ f ∷ []) e₁),
-      number_value c (first_number c (d ∷ f ∷ []) e₂),
-      number_value d (first_number d (f ∷ []) e₃),
-      number_value f (first_number f [] e₄),
-    )
-five_values v (a ∷ b ∷ c ∷ d ∷ f ∷ g ∷ ws) h e = absurd (omega arith)
+    at : (i : ℕ) → i < length ns → get_or ns i 0 ≡ value (get_or ws i [])
+    at i h = ap (λ l. get_or l i 0) are ∙ get_or-map value ws i [] 0 (omega (arith, many))
 
--- ---- as the code decides it: by the numbers, then by the word
-
--- the first word is as long as it is
-pub first_part : (s : List ℕ) (k : ℕ) → k ≡ length (first_word s) → k ≡ length (take k s)
-first_part s k e = sym (length-take-le k s (omega (arith, first_short s)))
-
-module _ (s : List ℕ) (k : ℕ) (n : Numbers) (ek : k ≡ length (first_word s)) (en : n ≡ numbers_of (drop k s)) where
-  line_read : line_of s ≡ line_of_words (take k s ∷ words_behind (drop k s))
-  unfolding line_of
-  line_read =
-      ap line_of_words
-      (words_first s
-      ∙ ap (λ (w : List ℕ). w ∷ words_behind (drop (length (first_word s)) s)) (sym (first_taken s))
-      ∙ ap (λ (j : ℕ). take j s ∷ words_behind (drop j s)) (sym ek))
-
-  numbers_read : n ≡ joined_all no_numbers (words_behind (drop k s))
-  unfolding numbers_of
-  numbers_read = en
-
-  all_numbers : n.good ≡ true → Joined no_numbers (words_behind (drop k s))
-  all_numbers g = all_joined no_numbers (words_behind (drop k s)) (ap (λ (m : Numbers). m.good) (sym numbers_read) ∙ g)
-
-  how_many : n.good ≡ true → length (words_behind (drop k s)) ≡ n.count
-  how_many g = omega (arith, (all_numbers g).counted, ap (λ (m : Numbers). m.count) numbers_read)
-
-  pub says_bad : n.good ≡ false → Bad ≡ line_of s
-  says_bad g =
-      let b : (joined_all no_numbers (words_behind (drop k s))).good ≡ false = ap (λ (m : Numbers). m.good) (sym numbers_read) ∙ g in
-      sym (line_read
-      ∙ no_shape (take k s ∷ words_behind (drop k s)) (not_numbers ring_word 1 (take k s) (words_behind (drop k s)) b (omega arith)) (not_numbers queue_word 5 (take k s) (words_behind (drop k s)) b (omega arith))
-      (not_numbers step_word 1 (take k s) (words_behind (drop k s)) b (omega arith)))
-
-  module _ (g : n.good ≡ true) where
-    one_read : n.count ≡ 1 → value_at (take k s ∷ words_behind (drop k s)) 1 ≡ get_or n.values 0 0
-    one_read h =
-        one_value (take k s) (words_behind (drop k s)) (how_many g ∙ h) (all_numbers g).each ∙ ap (λ (m : Numbers). get_or m.values 0 0) (sym numbers_read)
-
-    pub says_ring : n.count ≡ 1 → same (take k s) ring_word ≡ true → Ring (get_or n.values 0 0) ≡ line_of s
+    pub says_ring : length ns ≡ 1 → bytes_eq v ring_word ≡ true → Some (Ring (get_or ns 0 0)) ≡ line_of_words (v ∷ ws)
     unfolding line_of_words
-    says_ring h w =
-        sym (line_read ∙ cond_yes _ _ (shaped_is ring_word 1 (take k s) (words_behind (drop k s)) w (how_many g ∙ h) (all_numbers g).each) ∙ ap Ring (one_read h))
+    says_ring n w = ap (λ i. Some (Ring i)) (at 0 (omega arith)) ∙ sym (yes _ _ (shaped_is ring_word 1 v ws w (omega (arith, many)) each))
 
-    pub says_step : n.count ≡ 1 → same (take k s) ring_word ≡ false → same (take k s) step_word ≡ true → Step (get_or n.values 0 0) ≡ line_of s
+    pub says_step : length ns ≡ 1 → bytes_eq v ring_word ≡ false → bytes_eq v step_word ≡ true → Some (Step (get_or ns 0 0)) ≡ line_of_words (v ∷ ws)
     unfolding line_of_words
-    says_step h r w =
-        sym (line_read ∙ cond_no _ _ (other_word ring_word 1 (take k s) (words_behind (drop k s)) r)
-        ∙ cond_no _ _ (other_count queue_word 5 (take k s) (words_behind (drop k s)) (λ e. absurd (omega (arith, how_many g))))
-        ∙ cond_yes _ _ (shaped_is step_word 1 (take k s) (words_behind (drop k s)) w (how_many g ∙ h) (all_numbers g).each) ∙ ap Step (one_read h))
+    says_step n r w =
+        ap (λ i. Some (Step i)) (at 0 (omega arith))
+        ∙ sym (no _ _ (other_word ring_word 1 v ws r) ∙ no _ _ (other_count queue_word 5 v ws (λ e. absurd (omega (arith, many))))
+        ∙ yes _ _ (shaped_is step_word 1 v ws w (omega (arith, many)) each))
 
-    pub says_neither : n.count ≡ 1 → same (take k s) ring_word ≡ false → same (take k s) step_word ≡ false → Bad ≡ line_of s
-    says_neither h r w =
-        sym (line_read ∙ no_shape (take k s ∷ words_behind (drop k s)) (other_word ring_word 1 (take k s) (words_behind (drop k s)) r)
-        (other_count queue_word 5 (take k s) (words_behind (drop k s)) (λ e. absurd (omega (arith, how_many g)))) (other_word step_word 1 (take k s) (words_behind (drop k s)) w))
+    pub says_neither : length ns ≡ 1 → bytes_eq v ring_word ≡ false → bytes_eq v step_word ≡ false → None ≡ line_of_words (v ∷ ws)
+    says_neither n r w =
+        no_shape (v ∷ ws) (other_word ring_word 1 v ws r) (other_count queue_word 5 v ws (λ e. absurd (omega (arith, many)))) (other_word step_word 1 v ws w)
 
-    pub says_queue : n.count ≡ 5 → same (take k s) queue_word ≡ true
-        → queue_of n.values ≡ line_of s
+    pub says_queue : length ns ≡ 5 → bytes_eq v queue_word ≡ true
+        → Some (Queue (get_or ns 0 0) (record { to = get_or ns 1 0; priority = get_or ns 2 0; channel = get_or ns 3 0; length = get_or ns 4 0; listens = true })) ≡ line_of_words (v ∷ ws)
     unfolding line_of_words
-    says_queue h w =
-        sym (line_read ∙ cond_no _ _ (other_count ring_word 1 (take k s) (words_behind (drop k s)) (λ e. absurd (omega (arith, how_many g))))
-        ∙ cond_yes _ _ (shaped_is queue_word 5 (take k s) (words_behind (drop k s)) w (how_many g ∙ h) (all_numbers g).each)
-        ∙ five_values (take k s) (words_behind (drop k s)) (how_many g ∙ h) (all_numbers g).each ∙ ap (λ (m : Numbers). queue_of m.values) (sym numbers_read))
+    says_queue n w =
+        rw (at 0 (omega arith), at 1 (omega arith), at 2 (omega arith), at 3 (omega arith), at 4 (omega arith))
+        (sym (no _ _ (other_count ring_word 1 v ws (λ e. absurd (omega (arith, many)))) ∙ yes _ _ (shaped_is queue_word 5 v ws w (omega (arith, many)) each)))
 
-    pub says_five : n.count ≡ 5 → same (take k s) queue_word ≡ false → Bad ≡ line_of s
-    says_five h w =
-        sym (line_read ∙ no_shape (take k s ∷ words_behind (drop k s)) (other_count ring_word 1 (take k s) (words_behind (drop k s)) (λ e. absurd (omega (arith, how_many g))))
-        (other_word queue_word 5 (take k s) (words_behind (drop k s)) w) (other_count step_word 1 (take k s) (words_behind (drop k s)) (λ e. absurd (omega (arith, how_many g)))))
+    pub says_five : length ns ≡ 5 → bytes_eq v queue_word ≡ false → None ≡ line_of_words (v ∷ ws)
+    says_five n w =
+        no_shape (v ∷ ws) (other_count ring_word 1 v ws (λ e. absurd (omega (arith, many)))) (other_word queue_word 5 v ws w)
+        (other_count step_word 1 v ws (λ e. absurd (omega (arith, many))))
 
-    pub says_other : (n.count ≡ 1 → ⊥) → (n.count ≡ 5 → ⊥) → Bad ≡ line_of s
-    says_other h w =
-        sym (line_read ∙ no_shape (take k s ∷ words_behind (drop k s)) (other_count ring_word 1 (take k s) (words_behind (drop k s)) (λ e. h (sym (how_many g) ∙ e)))
-        (other_count queue_word 5 (take k s) (words_behind (drop k s)) (λ e. w (sym (how_many g) ∙ e))) (other_count step_word 1 (take k s) (words_behind (drop k s)) (λ e. h (sym (how_many g) ∙ e))))
+    pub says_other : (length ns ≡ 1 → ⊥) → (length ns ≡ 5 → ⊥) → None ≡ line_of_words (v ∷ ws)
+    says_other a b = bad_count (λ e. a (many ∙ e)) (λ e. b (many ∙ e))
+
+-- ---- word by word
+
+pub number_yes : (w : List ℕ) (v : ℕ) → number_in w ≡ Some v → (is_number w ≡ true) × (value w ≡ v)
+unfolding number_in pick
+number_yes w v e = go (is_number w) e
+  where
+    go : (b : Bool) → pick b (Some (value w)) None ≡ Some v → (b ≡ true) × (value w ≡ v)
+    go true e = (refl, same_Some _ _ e)
+    go false e = absurd (none-some v e)
+
+number_no : (w : List ℕ) → number_in w ≡ None → is_number w ≡ false
+unfolding number_in pick
+number_no w e = go (is_number w) e
+  where
+    go : (b : Bool) → pick b (Some (value w)) None ≡ None → b ≡ false
+    go true e = absurd (none-some (value w) (sym e))
+    go false e = refl
+
+module _ (done : List (List ℕ)) (w : List ℕ) where
+  -- one number more
+  pub number_more : (ns : List ℕ) (v : ℕ) → list_all is_number done ≡ true → ns ≡ map value done → number_in w ≡ Some v
+      → (list_all is_number (done ++ w ∷ []) ≡ true) × (ns ++ v ∷ [] ≡ map value (done ++ w ∷ []))
+  number_more ns v e are n =
+      let i = number_yes w v n in (
+        list_all-append is_number done (w ∷ []) ∙ rw (e, i.0) refl,
+        ap (λ l. l ++ v ∷ []) are ∙ ap (λ u. map value done ++ u ∷ []) (sym i.1) ∙ sym (map-append value done (w ∷ [])),
+      )
+
+  -- a word that is no number
+  pub number_none : (v : List ℕ) (ws : List (List ℕ)) → number_in w ≡ None → None ≡ line_of_words (v ∷ (done ++ w ∷ ws))
+  number_none v ws n =
+      bad_numbers v (done ++ w ∷ ws)
+      (list_all-append is_number done (w ∷ ws) ∙ ap (λ b. list_all is_number done && (b && list_all is_number ws)) (number_no w n) ∙ and-false (list_all is_number done))
+
+  -- the sixth
+  pub number_many : (v : List ℕ) (ws : List (List ℕ)) → length done ≡ 5 → None ≡ line_of_words (v ∷ (done ++ w ∷ ws))
+  number_many v ws n =
+      let l : length (done ++ w ∷ ws) ≡ length done + suc (length ws) = length-append done (w ∷ ws) in
+      bad_count v (done ++ w ∷ ws) (λ e. omega arith) (λ e. omega arith)

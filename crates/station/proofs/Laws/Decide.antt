@@ -9,7 +9,7 @@ use Rattle.parts.specs.Choose.{pick}
 use Rattle.parts.specs.Moves.{move_of, runs, is_idle}
 use Rattle.parts.specs.Messages.{split_by}
 use Rattle.parts.specs.Live.{without, successor}
-use Rattle.parts.specs.Frames.{number_of, flight, failing_of}
+use Rattle.parts.specs.Frames.{number_of, flight, failing_of, Dispatch}
 use Rattle.sent.specs.Round.{reply, start_round}
 use Rattle.sent.specs.Resend.{resend}
 use Rattle.station.specs.Stations.{station_by, state_of, awaited_of, with_turn, quiet_turn, quiet, sending_turn, more_turn, head, answered, moved, unless}
@@ -24,19 +24,14 @@ use Rattle.parts.specs.declared.moves.State.TheVariants.{Idle, Alone, Excluded}
 use Rattle.parts.specs.declared.moves.Event.TheVariants.{Heard, Timer, Start}
 use Rattle.parts.specs.declared.list.Message.{Message}
 use Rattle.parts.specs.declared.list.Which.TheVariants.{WaitingFor}
-use Rattle.parts.specs.declared.frame.Whom.{Whom}
-use Rattle.parts.specs.declared.frame.Whom.TheVariants.{Nobody, Member}
+use Rattle.std.specs.Prelude.{Option, None, Some}
 use Rattle.parts.specs.declared.frame.InformationFrame.{InformationFrame}
 use Rattle.parts.specs.declared.frame.Frame.{Frame}
 use Rattle.parts.specs.declared.frame.Frame.TheVariants.{Token, Transmit, Information}
-use Rattle.parts.specs.declared.frame.Dispatch.{Dispatch}
-use Rattle.parts.specs.declared.frame.Dispatch.TheVariants.{Nothing, Sent}
 use Rattle.sent.specs.declared.round.Sight.{Sight}
-use Rattle.station.specs.declared.station.Handled.TheVariants.{Last}
 use Rattle.station.specs.declared.station.Turn.{Turn}
 use Rattle.station.specs.declared.station.Station.{Station}
 use Rattle.station.specs.declared.station.Answer.{Answer}
-use Rattle.station.specs.declared.station.Payload.TheVariants.{NoPayload}
 use Rattle.station.specs.declared.rules.heard.Course.{Course}
 use Rattle.station.specs.declared.rules.deeds.Blow.{Blow}
 use Rattle.station.specs.declared.rules.deeds.Blow.TheVariants as blow
@@ -72,21 +67,21 @@ module _ (s : Station) (a : Bool) (to k : ℕ) where
   abbrev after : Blow → Station
   after b = (struck_of s b (closed (rested s.turn a) b) (leaving b (flight (rested s.turn a).awaited) (landing (lands_by s.turn a) s.sends))).station
 
-  looks : (w : Whom) → stops s.own (closed (rested s.turn a) (blow_of s.live s.n s.own w)) to k ≡ false
+  looks : (w : Option ℕ) → stops s.own (closed (rested s.turn a) (blow_of s.live s.n s.own w)) to k ≡ false
       → sight (after (blow_of s.live s.n s.own w)) ≡ sight_after s w
   unfolding blow_of blow_at closed leaving live_after live_without competing head pick
-  looks Nobody h = rw (landed_best s.turn a Nobody s.sends)
-  looks (Member p) h = go (eqb p s.own) (eqb (successor (without s.live p) s.n s.own) s.own) h
+  looks None h = rw (landed_best s.turn a None s.sends)
+  looks (Some p) h = go (eqb p s.own) (eqb (successor (without s.live p) s.n s.own) s.own) h
     where
       t : Turn
       t = rested s.turn a
 
       go : (x y : Bool) → stops s.own (closed t (pick x (blow.Itself p) (pick y (blow.Last p) (blow.Another p)))) to k ≡ false
-          → sight (after (pick x (blow.Itself p) (pick y (blow.Last p) (blow.Another p)))) ≡ sight_after s (Member p)
+          → sight (after (pick x (blow.Itself p) (pick y (blow.Last p) (blow.Another p)))) ≡ sight_after s (Some p)
       go true y e = absurd (false≢true (sym e ∙ stopped_there s.own (quiet_turn t Excluded) to k refl))
       go false true e = absurd (false≢true (sym e ∙ stopped_there s.own (quiet_turn t Alone) to k refl))
       go false false e =
-          rw (others_best (flight t.awaited) p (landing (lands_by s.turn a) s.sends), landed_best s.turn a (Member p) s.sends)
+          rw (others_best (flight t.awaited) p (landing (lands_by s.turn a) s.sends), landed_best s.turn a (Some p) s.sends)
 
 -- ---- what is stored, and the frame that is sent
 
@@ -96,7 +91,7 @@ module _ (k : Struck) (s : Station) (from : ℕ) (same : (i : InformationFrame) 
       record {
         station =
             station_by k.station.n k.station.limit k.station.own k.station.live k.station.sends r.list
-            (sending_turn (Last n) d)
+            (sending_turn (Some n) d)
             (record { lost = r.lost; givenup = k.station.counts.givenup });
         number = 0;
         sent = d;
@@ -113,7 +108,7 @@ module _ (k : Struck) (s : Station) (from : ℕ) (same : (i : InformationFrame) 
   replies (Information i) =
       ap
       (λ (x : Stored). let a : Answer = record { station = x.station; number = 0; sent = d; struck = k.struck; gone = k.gone; payload = x.payload } in a)
-      (receives_so k.station (heard_message k.station from i) (sending_turn (Last n) d))
+      (receives_so k.station (heard_message k.station from i) (sending_turn (Some n) d))
       ∙ ap (λ (m : Message). answer_with (received_one k.station.receives k.station.counts.lost m)) (sym (same i))
 
 stored_sight : (s : Station) (from : ℕ) (f : Frame) → sight (stored s from f).station ≡ sight s
@@ -164,7 +159,7 @@ module _ (s : Station) (f : Frame) (from to : ℕ) where
 
 -- after the table of moves and the checks
 nothing_done : (s : Station) (number : ℕ) → answered s number ≡ carried_out s (refused s.turn number)
-nothing_done s number = turned_alone s number s.turn Nothing
+nothing_done s number = turned_alone s number s.turn None
 
 pub frame_decides : (s : Station) (f : Frame) (from to : ℕ) → frame_rule s f from to ≡ carried_out s (decided s f from to)
 unfolding frame_rule moved unless decided pick
@@ -209,19 +204,19 @@ module _ (s : Station) (to : ℕ) where
   abbrev lone : Struck
   lone = struck_of s (blow.Last to) s.turn (leaving (blow.Last to) (flight (awaited_of s)) s.sends)
 
-  looks_on : sight (quiet lone.station Idle) ≡ sight_after s (Member to)
+  looks_on : sight (quiet lone.station Idle) ≡ sight_after s (Some to)
   unfolding leaving live_after live_without competing head
   looks_on =
       rw (flight_best (split_by (WaitingFor (flight (awaited_of s)) to) s.sends) (flight (awaited_of s)), others_best (flight (awaited_of s)) to s.sends)
 
   strikes_fully : (t : Turn) (d : Dispatch)
-      → record { station = with_turn lone.station t; number = 0; sent = d; struck = lone.struck; gone = lone.gone; payload = NoPayload }
+      → record { station = with_turn lone.station t; number = 0; sent = d; struck = lone.struck; gone = lone.gone; payload = None }
       ≡ carried_out s (strikes_out s to t d)
   unfolding carried_out received landing pick
   strikes_fully t d = refl
 
-  goes_alone : left_alone lone ≡ carried_out s (strikes_out s to (quiet_turn s.turn Alone) Nothing)
-  goes_alone = strikes_fully (quiet_turn s.turn Alone) Nothing
+  goes_alone : left_alone lone ≡ carried_out s (strikes_out s to (quiet_turn s.turn Alone) None)
+  goes_alone = strikes_fully (quiet_turn s.turn Alone) None
 
   goes_further : (d : Dispatch) → goes_on lone d ≡ carried_out s (going_on s to d)
   goes_further d = strikes_fully (sending_turn s.turn.handled d) d
@@ -232,11 +227,11 @@ module _ (s : Station) (to : ℕ) where
     where
       go : (b : Bool)
           → pick b (left_alone lone) (goes_on lone (resend (sight (quiet lone.station Idle)) to f))
-          ≡ carried_out s (pick b (strikes_out s to (quiet_turn s.turn Alone) Nothing) (going_on s to (resend (sight_after s (Member to)) to f)))
+          ≡ carried_out s (pick b (strikes_out s to (quiet_turn s.turn Alone) None) (going_on s to (resend (sight_after s (Some to)) to f)))
       go true = goes_alone
-      go false = ap (λ (v : Sight). goes_on lone (resend v to f)) looks_on ∙ goes_further (resend (sight_after s (Member to)) to f)
+      go false = ap (λ (v : Sight). goes_on lone (resend v to f)) looks_on ∙ goes_further (resend (sight_after s (Some to)) to f)
 
-looks_first : (s : Station) → sight s ≡ sight_after s Nobody
+looks_first : (s : Station) → sight s ≡ sight_after s None
 unfolding live_without competing head
 looks_first s = refl
 
@@ -245,9 +240,9 @@ unfolding started starting pick
 start_decides s = go (eqb s.own 0)
   where
     go : (b : Bool)
-        → pick b (sent_first s (start_round (sight s) 0 Nobody)) (answered (quiet s Idle) 0)
-        ≡ turn_alone s (pick b (beginning s (start_round (sight_after s Nobody) 0 Nobody)) (turned (quiet_turn s.turn Idle) Nothing))
-    go true = ap (λ (v : Sight). sent_first s (start_round v 0 Nobody)) (looks_first s)
+        → pick b (sent_first s (start_round (sight s) 0 None)) (answered (quiet s Idle) 0)
+        ≡ turn_alone s (pick b (beginning s (start_round (sight_after s None) 0 None)) (turned (quiet_turn s.turn Idle) None))
+    go true = ap (λ (v : Sight). sent_first s (start_round v 0 None)) (looks_first s)
     go false = refl
 
 -- ---- what is decided is done: over a verdict that says rightly whether it changes the turn alone
@@ -277,12 +272,12 @@ unfolding start_rule moved decided_start starting pick
 start_so s = go (eqb (move_of (state_of s) Start) runs) (eqb s.own 0) (start_decides s)
   where
     first : Bool → Verdict
-    first c = pick c (beginning s (start_round (sight_after s Nobody) 0 Nobody)) (turned (quiet_turn s.turn Idle) Nothing)
+    first c = pick c (beginning s (start_round (sight_after s None) 0 None)) (turned (quiet_turn s.turn Idle) None)
 
     go : (b c : Bool) → started s ≡ turn_alone s (first c)
         → Decides s (pick b (started s) (answered s (move_of (state_of s) Start))) (pick b (first c) (refused s.turn (move_of (state_of s) Start)))
-    go true true e = record { carried = e ∙ turned_alone s 0 (sending_turn s.turn.handled (start_round (sight_after s Nobody) 0 Nobody)) (start_round (sight_after s Nobody) 0 Nobody); honest = refl }
-    go true false e = record { carried = e ∙ turned_alone s 0 (quiet_turn s.turn Idle) Nothing; honest = refl }
+    go true true e = record { carried = e ∙ turned_alone s 0 (sending_turn s.turn.handled (start_round (sight_after s None) 0 None)) (start_round (sight_after s None) 0 None); honest = refl }
+    go true false e = record { carried = e ∙ turned_alone s 0 (quiet_turn s.turn Idle) None; honest = refl }
     go false c e = record { carried = nothing_done s (move_of (state_of s) Start); honest = refl }
 
 silence_so : (s : Station) (to : ℕ) (f : Frame) → Decides s (silence s to f) (decided_silence s to f)
@@ -290,7 +285,7 @@ unfolding silence decided_silence last_timer pick
 silence_so s to f = go (ltb s.turn.retries s.limit) (eqb (successor (without s.live to) s.n s.own) s.own) (times_last s to f)
   where
     last : Bool → Verdict
-    last c = pick c (strikes_out s to (quiet_turn s.turn Alone) Nothing) (going_on s to (resend (sight_after s (Member to)) to f))
+    last c = pick c (strikes_out s to (quiet_turn s.turn Alone) None) (going_on s to (resend (sight_after s (Some to)) to f))
 
     go : (b c : Bool) → after_strike (unanswered s to) to f ≡ carried_out s (last c)
         → Decides s (pick b (again s) (after_strike (unanswered s to) to f)) (pick b (turned (more_turn s.turn) (awaited_of s)) (last c))
@@ -300,8 +295,8 @@ silence_so s to f = go (ltb s.turn.retries s.limit) (eqb (successor (without s.l
 
 awaiting_so : (s : Station) (d : Dispatch) → Decides s (on_timer s d) (decided_awaiting s d)
 unfolding on_timer decided_awaiting
-awaiting_so s Nothing = record { carried = nothing_done s 0; honest = refl }
-awaiting_so s (Sent f to) = silence_so s to f
+awaiting_so s None = record { carried = nothing_done s 0; honest = refl }
+awaiting_so s (Some (f, to)) = silence_so s to f
 
 pub timer_so : (s : Station) → Decides s (timer_rule s) (decided_timer s)
 unfolding timer_rule moved decided_timer pick

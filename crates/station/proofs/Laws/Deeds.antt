@@ -6,7 +6,7 @@ use native.Mathlib.Omega.{arith}
 use lib.Dec.{eqb, leb}
 use Rattle.parts.specs.Choose.{pick}
 use Rattle.parts.specs.Messages.{pushed, split_by, chosen_by, best}
-use Rattle.parts.specs.Frames.{flight}
+use Rattle.parts.specs.Frames.{flight, Dispatch}
 use Rattle.parts.specs.Live.{newly}
 use Rattle.station.specs.Stations.{station_by, with_turn, with_sends, with_receives, with_lost, awaited_of, quiet, quiet_turn, add_up_to, alone, head}
 use Rattle.station.specs.Sight.{sight}
@@ -19,16 +19,12 @@ use Rattle.parts.specs.declared.moves.State.TheVariants.{Idle, Alone, Excluded}
 use Rattle.parts.specs.declared.list.Message.{Message}
 use Rattle.parts.specs.declared.list.Messages.{Messages}
 use Rattle.parts.specs.declared.list.Parts.{Parts}
-use Rattle.parts.specs.declared.list.Flight.{Flight}
 use Rattle.parts.specs.declared.list.Which.{Which}
 use Rattle.parts.specs.declared.list.Which.TheVariants.{WaitingFor, HasPlace}
-use Rattle.parts.specs.declared.frame.Whom.{Whom}
-use Rattle.parts.specs.declared.frame.Whom.TheVariants.{Nobody, Member}
-use Rattle.parts.specs.declared.frame.Dispatch.{Dispatch}
+use Rattle.std.specs.Prelude.{Option, None, Some, is_some}
+use Rattle.std.specs.Option.{option_map_or}
 use Rattle.station.specs.declared.station.Turn.{Turn}
 use Rattle.station.specs.declared.station.Station.{Station}
-use Rattle.station.specs.declared.station.Payload.{Payload}
-use Rattle.station.specs.declared.station.Payload.TheVariants.{NoPayload, Of}
 use Rattle.station.specs.declared.rules.deeds.Blow.{Blow}
 use Rattle.station.specs.declared.rules.deeds.Blow.TheVariants as blow
 use Rattle.station.specs.declared.rules.deeds.Verdict.{Verdict}
@@ -43,24 +39,23 @@ loss_of s d = record { station = with_sends s d.kept; gone = d.gone }
 
 module _ (s : Station) (d : Parts) where
   given_up_at : (p : ℕ) → give_up_at (loss_of s d) p ≡ loss_of s (also_at d p)
-  unfolding give_up_at also_at pick
-  given_up_at p = go (best (HasPlace p) d.kept).some
+  unfolding give_up_at also_at
+  given_up_at p = go (best (HasPlace p) d.kept)
     where
-      more : Parts
-      more = record { kept = (split_by (HasPlace p) d.kept).kept; gone = pushed d.gone (best (HasPlace p) d.kept).message }
+      more : Message → Parts
+      more m = record { kept = (split_by (HasPlace p) d.kept).kept; gone = pushed d.gone m }
 
-      go : (b : Bool) → pick b (loss_of s more) (loss_of s d) ≡ loss_of s (pick b more d)
-      go true = refl
-      go false = refl
+      go : (b : Option Message) → option_map_or (λ (m : Message). loss_of s (more m)) b (loss_of s d) ≡ loss_of s (option_map_or more b d)
+      go None = refl
+      go (Some m) = refl
 
   given_up_flight : give_up_flight (loss_of s d) ≡ loss_of s (also_flight d (flight (awaited_of s)))
-  unfolding give_up_flight also_flight pick
-  given_up_flight = go (flight (awaited_of s)).on
+  unfolding give_up_flight also_flight
+  given_up_flight = go (flight (awaited_of s))
     where
-      go : (b : Bool) → pick b (give_up_at (loss_of s d) (flight (awaited_of s)).place) (loss_of s d)
-          ≡ loss_of s (pick b (also_at d (flight (awaited_of s)).place) d)
-      go true = given_up_at (flight (awaited_of s)).place
-      go false = refl
+      go : (f : Option ℕ) → option_map_or (give_up_at (loss_of s d)) f (loss_of s d) ≡ loss_of s (option_map_or (also_at d) f d)
+      go None = refl
+      go (Some p) = given_up_at p
 
 given_up_to : (s : Station) (p : ℕ) → give_up_to s p ≡ loss_of s (split_by (WaitingFor (flight (awaited_of s)) p) s.sends)
 unfolding give_up_to
@@ -93,7 +88,7 @@ add_none c =
 abbrev hit_by : Station → Blow → Struck
 hit_by s b = struck_of s b (closed s.turn b) (leaving b (flight (awaited_of s)) s.sends)
 
-abbrev ended : Whom → State → Loss → Struck
+abbrev ended : Option ℕ → State → Loss → Struck
 ended w st l = record { station = quiet (told l w).station st; struck = w; gone = (told l w).gone }
 
 module _ (s : Station) (p : ℕ) where
@@ -121,10 +116,10 @@ module _ (s : Station) (p : ℕ) where
       go false true = hits_last
       go false false = hits_another
 
-pub fails : (s : Station) (w : Whom) → failed s w ≡ hit_by s (blow_of s.live s.n s.own w)
+pub fails : (s : Station) (w : Option ℕ) → failed s w ≡ hit_by s (blow_of s.live s.n s.own w)
 unfolding failed blow_of closed leaving live_after struck_by
-fails s Nobody = rw (add_none s.counts.givenup)
-fails s (Member p) = hits s p
+fails s None = rw (add_none s.counts.givenup)
+fails s (Some p) = hits s p
 
 -- the last timer
 pub strikes_out_lem : (s : Station) (to : ℕ)
@@ -142,16 +137,13 @@ pub acknowledges : (s : Station) (from k : ℕ) → acknowledge s from k ≡ ack
 unfolding acknowledge landed landing lands_by rested pick
 acknowledges s from k = go (acknowledged s from k)
   where
-    f : Flight
-    f = flight (awaited_of s)
-
-    lands : (b : Bool) → quiet (pick b (leave s f.place) s) Idle
-        ≡ with_turn (with_sends s (pick b (split_by (HasPlace f.place) s.sends).kept s.sends)) (quiet_turn s.turn Idle)
-    lands true = refl
-    lands false = refl
+    lands : (f : Option ℕ) → quiet (option_map_or (leave s) f s) Idle
+        ≡ with_turn (with_sends s (option_map_or (λ (p : ℕ). (split_by (HasPlace p) s.sends).kept) f s.sends)) (quiet_turn s.turn Idle)
+    lands None = refl
+    lands (Some p) = refl
 
     go : (a : Bool) → pick a (quiet (landed s) Idle) s ≡ acked_by s a
-    go true = lands f.on
+    go true = lands (flight (awaited_of s))
     go false = refl
 
 -- ---- what is stored changes neither the turn nor what the station looks at
@@ -175,14 +167,14 @@ module _ (s : Station) (m : Message) where
       by_page : Bool → Stored
       by_page b =
           pick {A = Stored} b
-          (record { station = with_lost s (add_up_to s.counts.lost 1); payload = NoPayload })
-          (record { station = with_receives s (pushed s.receives m); payload = Of m })
+          (record { station = with_lost s (add_up_to s.counts.lost 1); payload = None })
+          (record { station = with_receives s (pushed s.receives m); payload = Some m })
 
       by_list : Bool → Received
       by_list b =
           pick b
-          (record { list = s.receives; lost = add_up_to s.counts.lost 1; payload = NoPayload })
-          (record { list = pushed s.receives m; lost = s.counts.lost; payload = Of m })
+          (record { list = s.receives; lost = add_up_to s.counts.lost 1; payload = None })
+          (record { list = pushed s.receives m; lost = s.counts.lost; payload = Some m })
 
       go : (b : Bool)
           → ◌≡◌ {A = Stored}
@@ -203,8 +195,8 @@ module _ (s : Station) (m : Message) where
       go : (b : Bool)
           → sight
           (pick {A = Stored} b
-          (record { station = with_lost s (add_up_to s.counts.lost 1); payload = NoPayload })
-          (record { station = with_receives s (pushed s.receives m); payload = Of m })
+          (record { station = with_lost s (add_up_to s.counts.lost 1); payload = None })
+          (record { station = with_receives s (pushed s.receives m); payload = Some m })
           ).station
           ≡ sight s
       go true = refl
@@ -218,17 +210,17 @@ nothing_touched = refl
 
 pub does_nothing : (s : Station) (v : Verdict) → untouched v.deeds ≡ true → turn_alone s v ≡ carried_out s v
 unfolding carried_out untouched landing leaving live_after struck_by received pick
-does_nothing s v = go v.deeds.lands.on v.deeds.blow v.deeds.stores
+does_nothing s v = go v.deeds.lands v.deeds.blow v.deeds.stores
   where
-    parts : Bool → Blow → Parts
-    parts a b = leaving b v.deeds.flight (pick a (split_by (HasPlace v.deeds.lands.place) s.sends).kept s.sends)
+    parts : Option ℕ → Blow → Parts
+    parts a b = leaving b v.deeds.flight (option_map_or (λ (p : ℕ). (split_by (HasPlace p) s.sends).kept) a s.sends)
 
-    kept : Bool → Blow → Received → Station
+    kept : Option ℕ → Blow → Received → Station
     kept a b r =
         station_by s.n s.limit s.own (live_after s.live b) (parts a b).kept r.list v.turn
         (record { lost = r.lost; givenup = add_up_to s.counts.givenup (parts a b).gone.len })
 
-    go : (a : Bool) (b : Blow) (p : Payload) → pick a false (pick (spares b) (stores_none p) false) ≡ true
+    go : (a : Option ℕ) (b : Blow) (p : Option Message) → pick (is_some a) false (pick (spares b) (stores_none p) false) ≡ true
         → turn_alone s v
         ≡ record {
           station = kept a b (received s.receives s.counts.lost p);
@@ -238,19 +230,19 @@ does_nothing s v = go v.deeds.lands.on v.deeds.blow v.deeds.stores
           gone = (parts a b).gone;
           payload = (received s.receives s.counts.lost p).payload;
         }
-    go true b p e = absurd (false≢true e)
-    go false blow.Spares NoPayload e = rw (add_none s.counts.givenup)
-    go false blow.Spares (Of m) e = absurd (false≢true e)
-    go false (blow.Another q) p e = absurd (false≢true e)
-    go false (blow.Last q) p e = absurd (false≢true e)
-    go false (blow.Itself q) p e = absurd (false≢true e)
+    go (Some q) b p e = absurd (false≢true e)
+    go None blow.Spares None e = rw (add_none s.counts.givenup)
+    go None blow.Spares (Some m) e = absurd (false≢true e)
+    go None (blow.Another q) p e = absurd (false≢true e)
+    go None (blow.Last q) p e = absurd (false≢true e)
+    go None (blow.Itself q) p e = absurd (false≢true e)
 
 pub turned_alone : (s : Station) (number : ℕ) (t : Turn) (d : Dispatch) → turn_alone s (verdict number t d no_deeds) ≡ carried_out s (verdict number t d no_deeds)
 turned_alone s number t d = does_nothing s (verdict number t d no_deeds) nothing_touched
 
 -- ---- who is given up: the waiting ones, then the one in flight
 
-pub leaves_so : (b : Blow) (f : Flight) (l : Messages) → also_flight (waiters_leave b f l) (flight_leaves b f) ≡ leaving b f l
+pub leaves_so : (b : Blow) (f : Option ℕ) (l : Messages) → also_flight (waiters_leave b f l) (flight_leaves b f) ≡ leaving b f l
 unfolding waiters_leave flight_leaves leaving also_flight pick
 leaves_so blow.Spares f l = refl
 leaves_so (blow.Another p) f l = refl

@@ -5,7 +5,7 @@ use Prim.Native.Nat.{ℕ, ◌<◌, ◌≤◌}
 use borrow.Author.Tests.{le-leb, lt-leb}
 use Rattle.parts.specs.Moves.{move_of, runs}
 use Rattle.parts.specs.Messages.{pushed}
-use Rattle.parts.specs.Frames.{number_of, failing_of}
+use Rattle.parts.specs.Frames.{number_of, failing_of, Dispatch}
 use Rattle.station.specs.Stations.{state_of, with_receives, with_lost, add_up_to}
 use Rattle.station.specs.Sight.{sight}
 use Rattle.sent.specs.Round.{reply}
@@ -14,11 +14,9 @@ use Rattle.station.specs.Heard.{Stored, acknowledge, failed, nothing_more, recei
 use Rattle.parts.specs.declared.moves.Event.TheVariants.{Heard}
 use Rattle.parts.specs.declared.list.Message.{Message}
 use Rattle.parts.specs.declared.list.Messages.{Messages}
-use Rattle.parts.specs.declared.frame.Whom.{Whom}
+use Rattle.std.specs.Prelude.{Option, None, Some}
 use Rattle.parts.specs.declared.frame.Frame.{Frame}
-use Rattle.parts.specs.declared.frame.Dispatch.{Dispatch}
 use Rattle.station.specs.declared.station.Station.{Station}
-use Rattle.station.specs.declared.station.Payload.TheVariants.{NoPayload, Of}
 use Rattle.sent.specs.declared.round.Sight.{Sight}
 use Rattle.parts.proofs.Laws.Choose.{pick_true, pick_false}
 use Rattle.station.proofs.Laws.Moved.{moved_runs, unless_passes}
@@ -26,12 +24,12 @@ use Rattle.station.proofs.Laws.Moved.{moved_runs, unless_passes}
 -- ---- stored, or counted lost
 
 pub receives_none : (s : Station) (m : Message) (k : ℕ) → k ≡ add_up_to s.counts.lost 1 → 16 ≤ s.receives.len
-    → ◌≡◌ {A = Stored} (record { station = with_lost s k; payload = NoPayload }) (receive s m)
+    → ◌≡◌ {A = Stored} (record { station = with_lost s k; payload = None }) (receive s m)
 unfolding receive
 receives_none s m k e h = rw e (sym (pick_true _ _ (le-leb _ _ h)))
 
 pub receives_one : (s t : Station) (m : Message) (l : Messages) → l ≡ pushed s.receives m → t ≡ with_receives s l → s.receives.len < 16
-    → ◌≡◌ {A = Stored} (record { station = t; payload = Of m }) (receive s m)
+    → ◌≡◌ {A = Stored} (record { station = t; payload = Some m }) (receive s m)
 unfolding receive
 receives_one s t m l e f h = rw (f, e) (sym (pick_false _ _ (lt-leb _ _ h)))
 
@@ -49,7 +47,7 @@ responds k from to f n t i h e = rw e (sym (pick_false _ _ (ap (nothing_more k.s
 
 -- ---- the steps in order
 
-pub hears : (s : Station) (f : Frame) (from to n : ℕ) (t : Station) (w : Whom) (k : Struck) → n ≡ number_of f → t ≡ acknowledge s from n
+pub hears : (s : Station) (f : Frame) (from to n : ℕ) (t : Station) (w : Option ℕ) (k : Struck) → n ≡ number_of f → t ≡ acknowledge s from n
     → w ≡ failing_of f → k ≡ failed t w → respond k from to f ≡ heard s f from to
 unfolding heard
 hears s f from to n t w k i j e g = rw (g, e, j, i)

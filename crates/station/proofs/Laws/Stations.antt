@@ -4,10 +4,8 @@ use Prim.Native.Nat.{ℕ, ◌+◌, ◌-◌, ◌<◌, ◌≤◌}
 use borrow.Author.Tests.{le-leb, lt-leb}
 use Rattle.parts.specs.declared.live.Live.{Live}
 use Rattle.parts.specs.declared.list.Messages.{Messages}
-use Rattle.parts.specs.declared.frame.Dispatch.TheVariants.{Nothing}
-use Rattle.parts.specs.declared.frame.Whom.TheVariants.{Nobody}
+use Rattle.std.specs.Prelude.{None}
 use Rattle.station.specs.declared.station.Station.{Station}
-use Rattle.station.specs.declared.station.Payload.TheVariants.{NoPayload}
 use Rattle.parts.specs.Messages.{none}
 use Rattle.parts.specs.Live.{full}
 use Rattle.station.specs.Stations.{new_turn, new_counts, made, add_up_to, answered}
@@ -47,5 +45,5 @@ made_of_lem n limit own l a b p q r = λ i.
 
 -- an answer with an empty list of messages given up, nothing else told
 pub answered_of : (s : Station) (number : ℕ) (g : Messages) → g ≡ none
-    → record { station = s; number = number; sent = Nothing; struck = Nobody; gone = g; payload = NoPayload } ≡ answered s number
-answered_of s number g p = λ i. record { station = s; number = number; sent = Nothing; struck = Nobody; gone = p i; payload = NoPayload }
+    → record { station = s; number = number; sent = None; struck = None; gone = g; payload = None } ≡ answered s number
+answered_of s number g p = λ i. record { station = s; number = number; sent = None; struck = None; gone = p i; payload = None }

@@ -9,7 +9,7 @@ use Rattle.station.specs.Timer.{again, unanswered, after_strike, silence, on_tim
 use Rattle.parts.specs.declared.moves.State.TheVariants.{Waiting}
 use Rattle.parts.specs.declared.moves.Event.TheVariants.{Timer}
 use Rattle.parts.specs.declared.frame.Frame.{Frame}
-use Rattle.parts.specs.declared.frame.Dispatch.TheVariants.{Sent}
+use Rattle.std.specs.Prelude.{Some}
 use Rattle.station.specs.declared.station.Station.{Station}
 use Rattle.parts.proofs.Laws.Choose.{pick_true, pick_false}
 use Rattle.station.proofs.Laws.Moved.{moved_runs}
@@ -26,13 +26,13 @@ unfolding silence
 silence_last s to f k h e = rw e (sym (pick_false _ _ (le-ltb _ _ h)))
 
 -- where a frame is awaited, the rule is these two
-pub timer_runs : (s : Station) (f : Frame) (to : ℕ) → state_of s ≡ Waiting → awaited_of s ≡ Sent f to → timer_rule s ≡ silence s to f
+pub timer_runs : (s : Station) (f : Frame) (to : ℕ) → state_of s ≡ Waiting → awaited_of s ≡ Some (f, to) → timer_rule s ≡ silence s to f
 unfolding timer_rule on_timer
 timer_runs s f to w e = moved_runs s Timer (on_timer s (awaited_of s)) (ap (λ st. move_of st Timer) (sym w)) refl ∙ rw e
 
-pub timer_again : (s : Station) (f : Frame) (to : ℕ) → state_of s ≡ Waiting → awaited_of s ≡ Sent f to → s.turn.retries < s.limit → timer_rule s ≡ again s
+pub timer_again : (s : Station) (f : Frame) (to : ℕ) → state_of s ≡ Waiting → awaited_of s ≡ Some (f, to) → s.turn.retries < s.limit → timer_rule s ≡ again s
 timer_again s f to w e h = timer_runs s f to w e ∙ sym (silence_again s to f h)
 
-pub timer_last : (s : Station) (f : Frame) (to : ℕ) → state_of s ≡ Waiting → awaited_of s ≡ Sent f to → s.limit ≤ s.turn.retries
+pub timer_last : (s : Station) (f : Frame) (to : ℕ) → state_of s ≡ Waiting → awaited_of s ≡ Some (f, to) → s.limit ≤ s.turn.retries
     → timer_rule s ≡ after_strike (unanswered s to) to f
 timer_last s f to w e h = timer_runs s f to w e ∙ sym (silence_last s to f (unanswered s to) h refl)

@@ -22,9 +22,9 @@ ghost use Rattle.station.specs.Deeds.{
   done_by,
 };
 
-use crate::station::{Answer, Counts, Payload, Station, Turn};
-use parts::frame::{Dispatch, Whom};
-use parts::list::{Flight, Message, Messages, Parts, Which};
+use crate::station::{Answer, Counts, Station, Turn};
+use parts::frame::Dispatch;
+use parts::list::{Message, Messages, Parts, Which};
 use parts::live::Live;
 
 // Whom a call strikes, and which messages are given up with it.
@@ -45,10 +45,10 @@ pub enum Blow {
 #[derive(Drop)]
 #[derive(Clone, Copy)]
 pub struct Deeds {
-    pub lands: Flight,
-    pub flight: Flight,
+    pub lands: Option<u8>,
+    pub flight: Option<u8>,
     pub blow: Blow,
-    pub stores: Payload,
+    pub stores: Option<Message>,
 }
 
 // What was decided, and whether it changes the turn alone.
@@ -68,7 +68,7 @@ pub struct Verdict {
 pub struct Received {
     pub list: Messages,
     pub lost: u32,
-    pub payload: Payload,
+    pub payload: Option<Message>,
 }
 
 // The turn and the frame to send, and whether nothing else was decided.
@@ -84,16 +84,10 @@ pub fn no_deeds() -> Deeds
     ensures { result ≡ Rattle.station.specs.Deeds.no_deeds }
 {
     Deeds {
-        lands: Flight {
-            on: false,
-            place: 0,
-        },
-        flight: Flight {
-            on: false,
-            place: 0,
-        },
+        lands: None,
+        flight: None,
         blow: Blow::Spares,
-        stores: Payload::NoPayload,
+        stores: None,
     }
 }
 
@@ -101,7 +95,7 @@ pub fn no_deeds() -> Deeds
 pub fn untouched(d: Deeds) -> bool
     ensures { result ≡ untouched d }
 {
-    if d.lands.on {
+    if d.lands.is_some() {
         return false;
     }
     let blow = d.blow;
@@ -109,8 +103,8 @@ pub fn untouched(d: Deeds) -> bool
     match blow {
         Blow::Spares => {
             match stores {
-                Payload::NoPayload => true,
-                Payload::Of(_) => false,
+                None => true,
+                Some(_) => false,
             }
         }
         Blow::Another(_) => false,
@@ -137,7 +131,7 @@ pub fn refuse(turn: Turn, number: u32) -> Verdict
     ensures { result ≡ refused turn number }
 {
     let deeds = no_deeds();
-    verdict_of(number, turn, Dispatch::Nothing, deeds)
+    verdict_of(number, turn, None, deeds)
 }
 
 // A turn and the frame to send, and nothing else.
@@ -150,14 +144,16 @@ pub fn turn_to(turn: Turn, sent: Dispatch) -> Verdict
 
 // ---- the send list
 
-pub fn land(l: Messages, f: Flight) -> Messages
+pub fn land(l: Messages, f: Option<u8>) -> Messages
     ensures { result ≡ landing f l }
 {
-    if f.on {
-        let w = Which::HasPlace(f.place);
-        return parts::list::chosen(l, w, false);
+    match f {
+        None => l,
+        Some(p) => {
+            let w = Which::HasPlace(p);
+            parts::list::chosen(l, w, false)
+        }
     }
-    l
 }
 
 // The message at a place is given up too.
@@ -165,22 +161,23 @@ pub fn also_at(d: Parts, place: u8) -> Parts
     ensures { result ≡ also_at d place }
 {
     let w = Which::HasPlace(place);
-    let b = parts::list::choose(d.kept, w);
-    if b.some {
-        let kept = parts::list::chosen(d.kept, w, false);
-        let gone = parts::list::push(d.gone, b.message);
-        return Parts { kept, gone };
+    match parts::list::choose(d.kept, w) {
+        None => d,
+        Some(m) => {
+            let kept = parts::list::chosen(d.kept, w, false);
+            let gone = parts::list::push(d.gone, m);
+            Parts { kept, gone }
+        }
     }
-    d
 }
 
-pub fn also_flight(d: Parts, f: Flight) -> Parts
+pub fn also_flight(d: Parts, f: Option<u8>) -> Parts
     ensures { result ≡ also_flight d f }
 {
-    if f.on {
-        return also_at(d, f.place);
+    match f {
+        None => d,
+        Some(p) => also_at(d, p),
     }
-    d
 }
 
 pub fn all_stay(l: Messages) -> Parts
@@ -191,7 +188,7 @@ pub fn all_stay(l: Messages) -> Parts
 }
 
 // The waiting messages to a station that is struck.
-pub fn waiters_leave(l: Messages, f: Flight, blow: Blow) -> Parts
+pub fn waiters_leave(l: Messages, f: Option<u8>, blow: Blow) -> Parts
     ensures { result ≡ waiters_leave blow f l }
 {
     match blow {
@@ -209,25 +206,19 @@ pub fn waiters_leave(l: Messages, f: Flight, blow: Blow) -> Parts
 }
 
 // The one in flight, where it is given up too.
-pub fn flight_leaves(f: Flight, blow: Blow) -> Flight
+pub fn flight_leaves(f: Option<u8>, blow: Blow) -> Option<u8>
     ensures { result ≡ flight_leaves blow f }
 {
     match blow {
-        Blow::Spares => Flight {
-            on: false,
-            place: 0,
-        },
-        Blow::Another(_) => Flight {
-            on: false,
-            place: 0,
-        },
+        Blow::Spares => None,
+        Blow::Another(_) => None,
         Blow::Last(_) => f,
         Blow::Itself(_) => f,
     }
 }
 
 // Who is given up with a station that is struck, in order.
-pub fn give_up(l: Messages, f: Flight, blow: Blow) -> Parts
+pub fn give_up(l: Messages, f: Option<u8>, blow: Blow) -> Parts
     ensures { result ≡ leaving blow f l }
 {
     let d = waiters_leave(l, f, blow);
@@ -259,11 +250,11 @@ pub fn live_after(live: Live, blow: Blow) -> Live
     }
 }
 
-pub fn struck_by(live: Live, blow: Blow) -> Whom
+pub fn struck_by(live: Live, blow: Blow) -> Option<u8>
     ensures { result ≡ struck_by live blow }
 {
     match blow {
-        Blow::Spares => Whom::Nobody,
+        Blow::Spares => None,
         Blow::Another(p) => parts::live::newly(live, p),
         Blow::Last(p) => parts::live::newly(live, p),
         Blow::Itself(p) => parts::live::newly(live, p),
@@ -281,27 +272,27 @@ pub fn received_one(l: Messages, lost: u32, m: Message) -> Received
         return Received {
             list: l,
             lost: more,
-            payload: Payload::NoPayload,
+            payload: None,
         };
     }
     let list = parts::list::push(l, m);
     Received {
         list,
         lost,
-        payload: Payload::Of(m),
+        payload: Some(m),
     }
 }
 
-pub fn receive(l: Messages, lost: u32, stores: Payload) -> Received
+pub fn receive(l: Messages, lost: u32, stores: Option<Message>) -> Received
     ensures { result ≡ received l lost stores }
 {
     match stores {
-        Payload::NoPayload => Received {
+        None => Received {
             list: l,
             lost,
-            payload: Payload::NoPayload,
+            payload: None,
         },
-        Payload::Of(m) => received_one(l, lost, m),
+        Some(m) => received_one(l, lost, m),
     }
 }
 
@@ -346,9 +337,9 @@ pub fn turn_alone(s: Station, v: Verdict) -> Answer
         station,
         number: v.number,
         sent,
-        struck: Whom::Nobody,
+        struck: None,
         gone,
-        payload: Payload::NoPayload,
+        payload: None,
     }
 }
 

@@ -4,9 +4,9 @@ ghost use Rattle.station.specs.Heard.{checks, acknowledged, is_last, stops, hear
 ghost use Rattle.station.specs.Decide.{rested, lands_by, blow_at, blow_of, closed, course_of, to_store, stores_too, quietly, replying, hearing, decided, turned_by};
 
 use crate::rules::deeds::{Blow, Deeds, Turned, Verdict};
-use crate::station::{Answer, Handled, Payload, Station, Turn};
-use parts::frame::{Dispatch, Frame, InformationFrame, Whom};
-use parts::list::{Flight, Message};
+use crate::station::{Answer, Station, Turn};
+use parts::frame::{Dispatch, Frame, InformationFrame};
+use parts::list::Message;
 use parts::live::Live;
 use parts::moves::{Event, State};
 
@@ -49,17 +49,14 @@ pub fn rest(t: Turn, acked: bool) -> Turn
 }
 
 // A message in flight leaves the list.
-pub fn lands_by(t: Turn, acked: bool) -> Flight
+pub fn lands_by(t: Turn, acked: bool) -> Option<u8>
     ensures { result ≡ lands_by t acked }
 {
     if acked {
         let awaited = t.awaited;
         return parts::frame::flight(awaited);
     }
-    Flight {
-        on: false,
-        place: 0,
-    }
+    None
 }
 
 // 3. A failing station.
@@ -77,12 +74,12 @@ pub fn blow_at(live: Live, n: u8, own: u8, p: u8) -> Blow
     Blow::Another(p)
 }
 
-pub fn blow_of(live: Live, n: u8, own: u8, w: Whom) -> Blow
+pub fn blow_of(live: Live, n: u8, own: u8, w: Option<u8>) -> Blow
     ensures { result ≡ blow_of live n own w }
 {
     match w {
-        Whom::Nobody => Blow::Spares,
-        Whom::Member(p) => blow_at(live, n, own, p),
+        None => Blow::Spares,
+        Some(p) => blow_at(live, n, own, p),
     }
 }
 
@@ -112,18 +109,18 @@ pub fn course_of(s: Station, f: Frame, acked: bool) -> Course
         lands,
         flight,
         blow,
-        stores: Payload::NoPayload,
+        stores: None,
     };
     Course { turn, deeds }
 }
 
 // 4. What stops.
-pub fn is_last(h: Handled, k: u16) -> bool
+pub fn is_last(h: Option<u16>, k: u16) -> bool
     ensures { result ≡ is_last h k }
 {
     match h {
-        Handled::Never => false,
-        Handled::Last(j) => j == k,
+        None => false,
+        Some(j) => j == k,
     }
 }
 
@@ -158,20 +155,20 @@ pub fn heard_message(s: Station, from: u8, i: InformationFrame) -> Message
     }
 }
 
-pub fn to_store(s: Station, from: u8, f: Frame) -> Payload
+pub fn to_store(s: Station, from: u8, f: Frame) -> Option<Message>
     ensures { result ≡ to_store s from f }
 {
     match f {
-        Frame::Token(_) => Payload::NoPayload,
-        Frame::Transmit(_) => Payload::NoPayload,
+        Frame::Token(_) => None,
+        Frame::Transmit(_) => None,
         Frame::Information(i) => {
             let m = heard_message(s, from, i);
-            Payload::Of(m)
+            Some(m)
         }
     }
 }
 
-pub fn stores_too(d: Deeds, stores: Payload) -> Deeds
+pub fn stores_too(d: Deeds, stores: Option<Message>) -> Deeds
     ensures { result ≡ stores_too d stores }
 {
     let lands = d.lands;
@@ -190,7 +187,7 @@ pub fn quietly(k: Course) -> Verdict
 {
     let turn = k.turn;
     let deeds = k.deeds;
-    crate::rules::deeds::verdict_of(0, turn, Dispatch::Nothing, deeds)
+    crate::rules::deeds::verdict_of(0, turn, None, deeds)
 }
 
 // The number is recorded as handled and a frame is sent with the next number.
@@ -201,7 +198,7 @@ pub fn reply(s: Station, f: Frame, from: u8, k: Course) -> Verdict
     let w = parts::frame::failing_of(f);
     let v = crate::rules::sight::look_after(s, w);
     let sent = sent::round::reply(v, f);
-    let handled = Handled::Last(number);
+    let handled = Some(number);
     let turn = crate::station::waiting(handled, sent);
     let stores = to_store(s, from, f);
     let deeds = stores_too(k.deeds, stores);

@@ -3,8 +3,8 @@ ghost use Rattle.std.specs.Prelude.{◌≡◌};
 ghost use Rattle.parts.specs.Messages.{Fits};
 ghost use Rattle.station.specs.Queue.{queue_number, joining, accepted, queue_rule};
 
-use crate::station::{Answer, Payload, Station};
-use parts::frame::{Dispatch, Whom};
+use crate::station::{Answer, Station};
+use parts::frame::Dispatch;
 use parts::list::Message;
 use parts::moves::Event;
 use parts::request::Request;
@@ -26,10 +26,10 @@ pub fn join(s: Station, m: Message) -> Answer
     Answer {
         station,
         number: 0,
-        sent: Dispatch::Nothing,
-        struck: Whom::Nobody,
+        sent: None,
+        struck: None,
         gone,
-        payload: Payload::Of(m),
+        payload: Some(m),
     }
 }
 

@@ -1,15 +1,13 @@
 // What a station looks at when it composes a frame, while the lists are still as they were.
-ghost use Rattle.std.specs.Prelude.{◌≡◌};
+ghost use Rattle.std.specs.Prelude.{◌≡◌, None, Some};
 ghost use Rattle.station.specs.Decide.{sight_after};
-ghost use Rattle.parts.specs.declared.frame.Whom.TheVariants.{Nobody, Member};
 
 use crate::station::Station;
-use parts::frame::Whom;
 use parts::list::Which;
 use sent::round::Sight;
 
 pub fn look(s: Station) -> Sight
-    ensures { result ≡ sight_after s Nobody }
+    ensures { result ≡ sight_after s None }
 {
     let live = s.live;
     let next = parts::live::successor(live, s.n, s.own);
@@ -28,7 +26,7 @@ pub fn look(s: Station) -> Sight
 
 // Once `p` is struck: neither the message in flight nor those to it compete for the head.
 pub fn look_without(s: Station, p: u8) -> Sight
-    ensures { result ≡ sight_after s (Member p) }
+    ensures { result ≡ sight_after s (Some p) }
 {
     let live = parts::live::without(s.live, p as usize);
     let next = parts::live::successor(live, s.n, s.own);
@@ -45,11 +43,11 @@ pub fn look_without(s: Station, p: u8) -> Sight
     }
 }
 
-pub fn look_after(s: Station, w: Whom) -> Sight
+pub fn look_after(s: Station, w: Option<u8>) -> Sight
     ensures { result ≡ sight_after s w }
 {
     match w {
-        Whom::Nobody => look(s),
-        Whom::Member(p) => look_without(s, p),
+        None => look(s),
+        Some(p) => look_without(s, p),
     }
 }

@@ -5,7 +5,7 @@ ghost use Rattle.station.specs.Start.{start_rule};
 
 use crate::rules::deeds::Verdict;
 use crate::station::{Answer, Station};
-use parts::frame::{Dispatch, Whom};
+use parts::frame::Dispatch;
 use parts::moves::{Event, State};
 
 pub fn starting(s: Station) -> Verdict
@@ -14,13 +14,13 @@ pub fn starting(s: Station) -> Verdict
     let turn = s.turn;
     if s.own == 0 {
         let v = crate::rules::sight::look(s);
-        let d = sent::round::start_round(v, 0, Whom::Nobody);
+        let d = sent::round::start_round(v, 0, None);
         let handled = turn.handled;
         let next = crate::station::waiting(handled, d);
         return crate::rules::deeds::turn_to(next, d);
     }
     let next = crate::station::resting(turn, State::Idle);
-    crate::rules::deeds::turn_to(next, Dispatch::Nothing)
+    crate::rules::deeds::turn_to(next, None)
 }
 
 impl Station {

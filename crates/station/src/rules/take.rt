@@ -2,12 +2,12 @@
 ghost use Rattle.std.specs.Prelude.{◌≡◌};
 ghost use Rattle.station.specs.Take.{best_on, taking, take_rule};
 
-use crate::station::{Answer, Payload, Station};
-use parts::frame::{Dispatch, Whom};
-use parts::list::{Best, Message, Which};
+use crate::station::{Answer, Station};
+use parts::frame::Dispatch;
+use parts::list::{BLANK, Message, Which};
 use parts::moves::Event;
 
-pub fn best_on(s: Station, channel: usize) -> Best
+pub fn best_on(s: Station, channel: usize) -> Option<Message>
     ensures { result ≡ best_on s channel }
 {
     let w = Which::OnChannel(channel);
@@ -24,10 +24,10 @@ pub fn taking(s: Station, m: Message) -> Answer
     Answer {
         station,
         number: 0,
-        sent: Dispatch::Nothing,
-        struck: Whom::Nobody,
+        sent: None,
+        struck: None,
         gone,
-        payload: Payload::Of(m),
+        payload: Some(m),
     }
 }
 
@@ -47,6 +47,6 @@ impl Station {
         if k != 0 {
             return crate::station::answered(self, k);
         }
-        taking(self, b.message)
+        taking(self, b.unwrap_or(BLANK))
     }
 }

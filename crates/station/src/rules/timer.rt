@@ -4,9 +4,8 @@ ghost use Rattle.station.specs.Decide.{strikes_out, going_on, last_timer, decide
 ghost use Rattle.station.specs.Timer.{timer_rule};
 
 use crate::rules::deeds::{Blow, Deeds, Verdict};
-use crate::station::{Answer, Payload, Station, Turn};
+use crate::station::{Answer, Station, Turn};
 use parts::frame::{Dispatch, Frame};
-use parts::list::Flight;
 use parts::moves::{Event, State};
 
 // The addressee is struck, and what goes with it is given up.
@@ -17,13 +16,10 @@ pub fn strikes_out(s: Station, to: u8, turn: Turn, sent: Dispatch) -> Verdict
     let awaited = t.awaited;
     let flight = parts::frame::flight(awaited);
     let deeds = Deeds {
-        lands: Flight {
-            on: false,
-            place: 0,
-        },
+        lands: None,
         flight,
         blow: Blow::Last(to),
-        stores: Payload::NoPayload,
+        stores: None,
     };
     crate::rules::deeds::verdict_of(0, turn, sent, deeds)
 }
@@ -43,7 +39,7 @@ pub fn last_timer(s: Station, to: u8, f: Frame) -> Verdict
     let v = crate::rules::sight::look_without(s, to);
     if v.next == s.own {
         let turn = crate::station::resting(s.turn, State::Alone);
-        return strikes_out(s, to, turn, Dispatch::Nothing);
+        return strikes_out(s, to, turn, None);
     }
     let d = sent::resend::resend(v, to, f);
     going_on(s, to, d)
@@ -75,8 +71,8 @@ impl Station {
         }
         let awaited = turn.awaited;
         match awaited {
-            Dispatch::Nothing => crate::rules::deeds::refuse(turn, 0),
-            Dispatch::Sent { frame, to } => silence(self, to, frame),
+            None => crate::rules::deeds::refuse(turn, 0),
+            Some((frame, to)) => silence(self, to, frame),
         }
     }
 

@@ -14,7 +14,7 @@ use Rattle.parts.specs.declared.moves.State.{State}
 use Rattle.parts.specs.declared.moves.State.TheVariants.{Idle}
 use Rattle.parts.specs.declared.moves.Event.TheVariants.{Heard}
 use Rattle.station.specs.declared.station.Station.{Station}
-use Rattle.parts.proofs.Laws.Choose.{pick_and}
+use Rattle.parts.proofs.Laws.Choose.{pick_and, map_or_either}
 use Rattle.station_theorems.proofs.Laws.Based.{Based, sound_based, quiet_idle}
 use Rattle.station_theorems.proofs.Laws.Struck.{left_based, still_based}
 use Rattle.station_theorems.proofs.Laws.Sound.{Sound}
@@ -37,17 +37,11 @@ pub record Hearing (s t : Station) : Type 0 where
   pub hears : move_of (state_of t) Heard ≡ runs
 
 landed_idle : (s : Station) → Based (flight (awaited_of s)) s → alone s ≡ false → Hearing s (quiet (landed s) Idle)
-unfolding landed pick
-landed_idle s b a = go (flight (awaited_of s)).on refl
-  where
-    go : (t : Bool) → (flight (awaited_of s)).on ≡ t → Hearing s (quiet (pick t (leave s (flight (awaited_of s)).place) s) Idle)
-    go true on =
-        record {
-          onward = record { kept = quiet_idle (leave s (flight (awaited_of s)).place) (left_based s (flight (awaited_of s)) b on) a; same_n = refl; same_own = refl };
-          hears = refl;
-        }
-    go false off =
-        record { onward = record { kept = quiet_idle s (still_based s (flight (awaited_of s)) b off) a; same_n = refl; same_own = refl }; hears = refl }
+unfolding landed
+landed_idle s b a =
+    map_or_either (λ (t : Station). Hearing s (quiet t Idle)) (leave s) (flight (awaited_of s)) s
+    (λ p on. record { onward = record { kept = quiet_idle (leave s p) (left_based s (flight (awaited_of s)) b p on) a; same_n = refl; same_own = refl }; hears = refl })
+    (λ off. record { onward = record { kept = quiet_idle s (still_based s (flight (awaited_of s)) b off) a; same_n = refl; same_own = refl }; hears = refl })
 
 pub acknowledge_hearing : (s : Station) (from k : ℕ) → Sound s → move_of (state_of s) Heard ≡ runs → Hearing s (acknowledge s from k)
 unfolding acknowledge acknowledged pick

@@ -9,7 +9,7 @@ use Rattle.parts.specs.Choose.{every}
 use Rattle.parts.specs.Moves.{move_of, runs, is_waiting, is_excluded}
 use Rattle.parts.specs.Messages.{all, flies, best}
 use Rattle.parts.specs.Live.{live_at}
-use Rattle.parts.specs.Frames.{no_flight, flight}
+use Rattle.parts.specs.Frames.{flight, Dispatch}
 use Rattle.station.specs.Stations.{state_of, awaited_of, alone, quiet, sending_turn, sending}
 use Rattle.wholeness.specs.Whole.{ring_good, own_seat, other_seat, company_good, list_good, waits_well, waiters_good, same_message, carried, awaited_good, turn_fits}
 use Rattle.parts.specs.declared.moves.State.{State}
@@ -18,12 +18,11 @@ use Rattle.parts.specs.declared.moves.Event.TheVariants.{Heard}
 use Rattle.parts.specs.declared.live.Live.{Live}
 use Rattle.parts.specs.declared.list.Message.{Message}
 use Rattle.parts.specs.declared.list.Messages.{Messages}
-use Rattle.parts.specs.declared.list.Flight.{Flight}
 use Rattle.parts.specs.declared.list.Which.TheVariants.{HasPlace}
+use Rattle.parts.specs.declared.frame.InformationFrame.{InformationFrame}
 use Rattle.parts.specs.declared.frame.Frame.TheVariants.{Token, Transmit, Information}
-use Rattle.parts.specs.declared.frame.Dispatch.{Dispatch}
-use Rattle.parts.specs.declared.frame.Dispatch.TheVariants.{Nothing, Sent}
-use Rattle.station.specs.declared.station.Handled.{Handled}
+use Rattle.std.specs.Prelude.{Option, None, Some, is_some}
+use Rattle.std.proofs.lemmas.Option.{none-some, same_Some}
 use Rattle.station.specs.declared.station.Station.{Station}
 use Rattle.parts.proofs.Laws.Choose.{pick_false}
 use Rattle.station_theorems.specs.Whole.{Ring}
@@ -67,7 +66,7 @@ ring_good_lem n limit own r =
 
 -- ---- between two turns: this station is live, waiting messages go to live stations, and a message in flight is there
 
-pub record Based (f : Flight) (s : Station) : Type 0 where
+pub record Based (f : Option ℕ) (s : Station) : Type 0 where
   pub shaped : Shaped s
   pub ring : ring_good s.n s.limit s.own ≡ true
   pub members : (p : ℕ) → live_at s.live p ≡ true → p < s.n
@@ -75,30 +74,36 @@ pub record Based (f : Flight) (s : Station) : Type 0 where
   pub sends : list_good s.n s.own s.sends ≡ true
   pub receives : list_good s.n s.own s.receives ≡ true
   pub waits : every (waits_well s.live f) (all s.sends) ≡ true
-  pub flown : f.on ≡ true → (best (HasPlace f.place) s.sends).some ≡ true
+  pub flown : (p : ℕ) → f ≡ Some p → is_some (best (HasPlace p) s.sends) ≡ true
   pub retries : turn_fits s.turn s.limit ≡ true
 
 -- the message of an awaited information frame is there
-pub in_flight_lem : (st : State) (n own : ℕ) (l : Messages) (d : Dispatch) → awaited_good st n own l d ≡ true → (flight d).on ≡ true
-    → (best (HasPlace (flight d).place) l).some ≡ true
-unfolding awaited_good carried same_message
-in_flight_lem st n own l Nothing e on = absurd (false≢true on)
-in_flight_lem st n own l (Sent (Token t) to) e on = absurd (false≢true on)
-in_flight_lem st n own l (Sent (Transmit t) to) e on = absurd (false≢true on)
-in_flight_lem st n own l (Sent (Information i) to) e on = (held _ (held _ e).1.1.1.1.0).0
+pub same_message_there : (b : Option Message) (to : ℕ) (i : InformationFrame) → same_message b to i ≡ true → is_some b ≡ true
+unfolding same_message
+same_message_there None to i e = e
+same_message_there (Some m) to i e = refl
+
+pub in_flight_lem : (st : State) (n own : ℕ) (l : Messages) (d : Dispatch) → awaited_good st n own l d ≡ true → (p : ℕ) → flight d ≡ Some p
+    → is_some (best (HasPlace p) l) ≡ true
+unfolding awaited_good carried
+in_flight_lem st n own l None e p on = absurd (none-some _ on)
+in_flight_lem st n own l (Some (Token t, to)) e p on = absurd (none-some _ on)
+in_flight_lem st n own l (Some (Transmit t, to)) e p on = absurd (none-some _ on)
+in_flight_lem st n own l (Some (Information i, to)) e p on =
+    ap (λ (q : ℕ). is_some (best (HasPlace q) l)) (sym (same_Some _ _ on)) ∙ same_message_there _ to i (held _ e).1.1.1.1.0
 
 -- no frame is awaited but when Waiting
-pub idle_flight : (st : State) (n own : ℕ) (l : Messages) (d : Dispatch) → is_waiting st ≡ false → awaited_good st n own l d ≡ true → flight d ≡ no_flight
+pub idle_flight : (st : State) (n own : ℕ) (l : Messages) (d : Dispatch) → is_waiting st ≡ false → awaited_good st n own l d ≡ true → flight d ≡ None
 unfolding awaited_good
-idle_flight st n own l Nothing w e = refl
-idle_flight st n own l (Sent f to) w e = absurd (false≢true (sym w ∙ (held _ e).0))
+idle_flight st n own l None w e = refl
+idle_flight st n own l (Some (f, to)) w e = absurd (false≢true (sym w ∙ (held _ e).0))
 
-each_waits : (st : State) (l : Live) (f : Flight) (ms : List Message) → is_excluded st ≡ false → waiters_good st l f ms ≡ true → every (waits_well l f) ms ≡ true
+each_waits : (st : State) (l : Live) (f : Option ℕ) (ms : List Message) → is_excluded st ≡ false → waiters_good st l f ms ≡ true → every (waits_well l f) ms ≡ true
 unfolding waiters_good
 each_waits st l f ms x e = sym (pick_false _ _ x) ∙ e
 
 -- a whole station that is live
-pub based_on : (s : Station) → Sound s → (f : Flight) → flight (awaited_of s) ≡ f → is_excluded (state_of s) ≡ false → live_at s.live s.own ≡ true → Based f s
+pub based_on : (s : Station) → Sound s → (f : Option ℕ) → flight (awaited_of s) ≡ f → is_excluded (state_of s) ≡ false → live_at s.live s.own ≡ true → Based f s
 based_on s k f e x o =
     let r = ringed s.n s.limit s.own k.ring in
     let t = seated (state_of s) s.n s.own s.live k.shaped.seats r.most_members r.member k.seats in
@@ -109,10 +114,8 @@ based_on s k f e x o =
       itself = o;
       sends = k.sends;
       receives = k.receives;
-      waits = ap (λ (g : Flight). every (waits_well s.live g) (all s.sends)) (sym e) ∙ each_waits (state_of s) s.live _ (all s.sends) x k.waiters;
-      flown = λ on.
-          ap (λ (g : Flight). (best (HasPlace g.place) s.sends).some) (sym e)
-          ∙ in_flight_lem (state_of s) s.n s.own s.sends (awaited_of s) k.awaited (ap (λ (g : Flight). g.on) e ∙ on);
+      waits = ap (λ (g : Option ℕ). every (waits_well s.live g) (all s.sends)) (sym e) ∙ each_waits (state_of s) s.live _ (all s.sends) x k.waiters;
+      flown = λ p on. in_flight_lem (state_of s) s.n s.own s.sends (awaited_of s) k.awaited p (e ∙ on);
       retries = k.retries;
     }
 
@@ -132,7 +135,7 @@ sound_based s m k =
 
 -- ---- the turns that make it whole
 
-module _ (s : Station) (b : Based no_flight s) where
+module _ (s : Station) (b : Based None s) where
   ring' : Ring s.n s.limit s.own
   ring' = ringed s.n s.limit s.own b.ring
 
@@ -173,7 +176,7 @@ module _ (s : Station) (b : Based no_flight s) where
       }
 
   -- a waiting message stays one, or is in flight
-  flies_too : (l : Live) (f : Flight) (m : Message) → waits_well l no_flight m ≡ true → waits_well l f m ≡ true
+  flies_too : (l : Live) (f : Option ℕ) (m : Message) → waits_well l None m ≡ true → waits_well l f m ≡ true
   unfolding waits_well
   flies_too l f m e = go (flies f m)
     where
@@ -181,7 +184,7 @@ module _ (s : Station) (b : Based no_flight s) where
       go true = refl
       go false = e
 
-  pub sends_off : (h : Handled) (d : Dispatch) → alone s ≡ false → awaited_good Waiting s.n s.own s.sends d ≡ true → Sound (sending s h d)
+  pub sends_off : (h : Option ℕ) (d : Dispatch) → alone s ≡ false → awaited_good Waiting s.n s.own s.sends d ≡ true → Sound (sending s h d)
   unfolding own_seat other_seat company_good waiters_good
   sends_off h d a g =
       record {
@@ -193,7 +196,7 @@ module _ (s : Station) (b : Based no_flight s) where
         receives = b.receives;
         waiters =
             pick_false _ _ refl
-            ∙ each_weaker (waits_well s.live no_flight) (waits_well s.live (flight d)) (λ m e. flies_too s.live (flight d) m e) (all s.sends) b.waits;
+            ∙ each_weaker (waits_well s.live None) (waits_well s.live (flight d)) (λ m e. flies_too s.live (flight d) m e) (all s.sends) b.waits;
         retries = turn_fits_lem (sending_turn h d) s.limit (omega arith);
         awaited = g;
       }

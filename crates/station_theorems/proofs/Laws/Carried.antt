@@ -6,10 +6,10 @@ use Prim.Native.Nat.{ℕ}
 use lib.Dec.{eqb}
 use borrow.Author.Tests.{eqb-true, eqb-false, eq-eqb, ne_eqb}
 use Rattle.parts.specs.Choose.{every}
-use Rattle.parts.specs.Messages.{fits, no_best, the_best, better_of, best_of, only, has_place}
+use Rattle.parts.specs.Messages.{fits, better_of, best_of, only, has_place}
+use Rattle.std.specs.Prelude.{Option, None, Some, is_some}
 use Rattle.wholeness.specs.Whole.{apart}
 use Rattle.parts.specs.declared.list.Message.{Message}
-use Rattle.parts.specs.declared.list.Best.{Best}
 use Rattle.parts.specs.declared.list.Which.{Which}
 use Rattle.parts.specs.declared.list.Which.TheVariants.{HasPlace}
 use Rattle.parts.proofs.Laws.Messages.{place_none, place_here, place_later, best_none, best_more, better_unfit, better_first, only_none, only_one, only_not}
@@ -18,7 +18,7 @@ use Rattle.station_theorems.proofs.Laws.Kept.{place_left, place_right, place_app
 
 -- ---- one after the other
 
-pub best_append : (w : Which) (xs ys : List Message) (b : Best) → best_of w (xs ++ ys) b ≡ best_of w ys (best_of w xs b)
+pub best_append : (w : Which) (xs ys : List Message) (b : Option Message) → best_of w (xs ++ ys) b ≡ best_of w ys (best_of w xs b)
 unfolding best_of
 best_append w [] ys b = refl
 best_append w (x ∷ xs) ys b = best_append w xs ys (better_of w b x)
@@ -27,7 +27,7 @@ best_append w (x ∷ xs) ys b = best_append w xs ys (better_of w b x)
 
 module _ (p : ℕ) where
   -- none has it
-  pub best_nowhere : (ms : List Message) (b : Best) → has_place ms p ≡ false → best_of (HasPlace p) ms b ≡ b
+  pub best_nowhere : (ms : List Message) (b : Option Message) → has_place ms p ≡ false → best_of (HasPlace p) ms b ≡ b
   unfolding fits
   best_nowhere [] b h = best_none (HasPlace p) b
   best_nowhere (m ∷ ms) b h = go (eqb m.place p) refl (best_nowhere ms b (place_right (m ∷ []) ms p h))
@@ -37,31 +37,31 @@ module _ (p : ℕ) where
       go false e r = best_more (HasPlace p) m ms b ∙ ap (best_of (HasPlace p) ms) (better_unfit (HasPlace p) b m e) ∙ r
 
   -- so where one is found, one has it
-  pub best_somewhere : (ms : List Message) → (best_of (HasPlace p) ms no_best).some ≡ true → has_place ms p ≡ true
+  pub best_somewhere : (ms : List Message) → is_some (best_of (HasPlace p) ms None) ≡ true → has_place ms p ≡ true
   best_somewhere ms e = go (has_place ms p) refl
     where
       go : (t : Bool) → has_place ms p ≡ t → has_place ms p ≡ true
       go true h = h
-      go false h = absurd (false≢true (sym (ap (λ (b : Best). b.some) (best_nowhere ms no_best h)) ∙ e))
+      go false h = absurd (false≢true (sym (ap (λ (b : Option Message). is_some b) (best_nowhere ms None h)) ∙ e))
 
   -- one more with another place
-  pub best_pushed : (ms : List Message) (m : Message) → (best_of (HasPlace p) ms no_best).some ≡ true → has_place ms m.place ≡ false
-      → best_of (HasPlace p) (ms ++ m ∷ []) no_best ≡ best_of (HasPlace p) ms no_best
+  pub best_pushed : (ms : List Message) (m : Message) → is_some (best_of (HasPlace p) ms None) ≡ true → has_place ms m.place ≡ false
+      → best_of (HasPlace p) (ms ++ m ∷ []) None ≡ best_of (HasPlace p) ms None
   unfolding fits
   best_pushed ms m e h =
-      best_append (HasPlace p) ms (m ∷ []) no_best
-      ∙ best_more (HasPlace p) m [] (best_of (HasPlace p) ms no_best)
+      best_append (HasPlace p) ms (m ∷ []) None
+      ∙ best_more (HasPlace p) m [] (best_of (HasPlace p) ms None)
       ∙ best_none (HasPlace p) _
-      ∙ better_unfit (HasPlace p) (best_of (HasPlace p) ms no_best) m (ne_eqb _ _ (λ q. false≢true (sym h ∙ ap (has_place ms) q ∙ best_somewhere ms e)))
+      ∙ better_unfit (HasPlace p) (best_of (HasPlace p) ms None) m (ne_eqb _ _ (λ q. false≢true (sym h ∙ ap (has_place ms) q ∙ best_somewhere ms e)))
 
   -- those that a test takes, where it takes each that has the place
-  pub best_only : (g : Message → Bool) → ((m : Message) → m.place ≡ p → g m ≡ true) → (ms : List Message) (b : Best)
+  pub best_only : (g : Message → Bool) → ((m : Message) → m.place ≡ p → g m ≡ true) → (ms : List Message) (b : Option Message)
       → best_of (HasPlace p) (only g ms) b ≡ best_of (HasPlace p) ms b
   unfolding fits
   best_only g w [] b = rw (only_none g)
   best_only g w (m ∷ ms) b = go (g m) refl (best_only g w ms)
     where
-      go : (t : Bool) → g m ≡ t → ((c : Best) → best_of (HasPlace p) (only g ms) c ≡ best_of (HasPlace p) ms c)
+      go : (t : Bool) → g m ≡ t → ((c : Option Message) → best_of (HasPlace p) (only g ms) c ≡ best_of (HasPlace p) ms c)
           → best_of (HasPlace p) (only g (m ∷ ms)) b ≡ best_of (HasPlace p) (m ∷ ms) b
       go true e r =
           ap (λ (l : List Message). best_of (HasPlace p) l b) (only_one g m ms e)
@@ -111,13 +111,13 @@ apart_within b (x ∷ xs) ys m e =
     (place_left b (x ∷ []) m.place r.0, place_append (x ∷ []) xs m.place (place_right b (x ∷ []) m.place r.0) r.1, r.2)
 
 -- so it is found by it
-pub best_found : (ms xs ys : List Message) (m : Message) → apart [] ms ≡ true → ms ≡ xs ++ m ∷ ys → best_of (HasPlace m.place) ms no_best ≡ the_best m
+pub best_found : (ms xs ys : List Message) (m : Message) → apart [] ms ≡ true → ms ≡ xs ++ m ∷ ys → best_of (HasPlace m.place) ms None ≡ Some m
 unfolding fits
 best_found ms xs ys m a e =
     let r = apart_within [] xs ys m (ap (apart []) (sym e) ∙ a) in
-    ap (λ (l : List Message). best_of (HasPlace m.place) l no_best) e
-    ∙ best_append (HasPlace m.place) xs (m ∷ ys) no_best
-    ∙ ap (best_of (HasPlace m.place) (m ∷ ys)) (best_nowhere m.place xs no_best r.1)
-    ∙ best_more (HasPlace m.place) m ys no_best
-    ∙ ap (best_of (HasPlace m.place) ys) (better_first (HasPlace m.place) no_best m (eq-eqb m.place m.place refl) refl)
-    ∙ best_nowhere m.place ys (the_best m) r.2
+    ap (λ (l : List Message). best_of (HasPlace m.place) l None) e
+    ∙ best_append (HasPlace m.place) xs (m ∷ ys) None
+    ∙ ap (best_of (HasPlace m.place) (m ∷ ys)) (best_nowhere m.place xs None r.1)
+    ∙ best_more (HasPlace m.place) m ys None
+    ∙ ap (best_of (HasPlace m.place) ys) (better_first (HasPlace m.place) None m (eq-eqb m.place m.place refl) refl)
+    ∙ best_nowhere m.place ys (Some m) r.2

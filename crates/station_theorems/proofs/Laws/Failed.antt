@@ -18,8 +18,7 @@ use Rattle.wholeness.specs.Whole.{own_seat, other_seat, company_good, list_good,
 use Rattle.parts.specs.declared.moves.State.TheVariants.{Alone, Excluded}
 use Rattle.parts.specs.declared.moves.Event.TheVariants.{Heard}
 use Rattle.parts.specs.declared.list.Messages.{Messages}
-use Rattle.parts.specs.declared.frame.Whom.{Whom}
-use Rattle.parts.specs.declared.frame.Whom.TheVariants.{Nobody, Member}
+use Rattle.std.specs.Prelude.{Option, None, Some}
 use Rattle.station.specs.declared.station.Station.{Station}
 use Rattle.parts.proofs.Laws.Choose.{pick_true}
 use Rattle.station_theorems.specs.Whole.{Ring}
@@ -38,11 +37,11 @@ excluded s p k e =
     flight_cases (λ (m : Loss). Onward s (quiet (counted m.station m.gone.len) Excluded)) (nothing_gone (strike s p)) (flight (awaited_of s)) refl
     (in_flight_lem (state_of s) s.n s.own s.sends (awaited_of s) k.awaited)
     (λ off. record { kept = quits s.sends k.shaped.sends k.sends _; same_n = refl; same_own = refl })
-    (λ on g.
+    (λ r on g.
     record {
       kept =
-          quits _ (kept_length s.n s.own s.sends k.sends (elsewhere (flight (awaited_of s)).place))
-          (list_only s.n s.own (elsewhere (flight (awaited_of s)).place) s.sends k.sends) _;
+          quits _ (kept_length s.n s.own s.sends k.sends (elsewhere r))
+          (list_only s.n s.own (elsewhere r) s.sends k.sends) _;
       same_n = refl;
       same_own = refl;
     })
@@ -75,7 +74,7 @@ excluded s p k e =
 
 -- ---- another
 
-other_struck : (s : Station) (p : ℕ) (w : Whom) → Sound s → move_of (state_of s) Heard ≡ runs → (p ≡ s.own → ⊥) → Onward s (strike_other s p w).station
+other_struck : (s : Station) (p : ℕ) (w : Option ℕ) → Sound s → move_of (state_of s) Heard ≡ runs → (p ≡ s.own → ⊥) → Onward s (strike_other s p w).station
 unfolding strike_other give_up_to split_by pick
 other_struck s p w k m o = go (alone (strike s p)) refl
   where
@@ -89,9 +88,9 @@ other_struck s p w k m o = go (alone (strike s p)) refl
     go true a =
         flight_cases (λ (x : Loss). Onward s (quiet (counted x.station x.gone.len) Alone)) l (flight (awaited_of s)) refl based.flown
         (λ off. record { kept = counted_sound _ _ (quiet_alone l.station (still_based l.station (flight (awaited_of s)) based off) a); same_n = refl; same_own = refl })
-        (λ on g.
+        (λ r on g.
         record {
-          kept = counted_sound _ _ (quiet_alone (leave l.station (flight (awaited_of s)).place) (left_based l.station (flight (awaited_of s)) based on) a);
+          kept = counted_sound _ _ (quiet_alone (leave l.station r) (left_based l.station (flight (awaited_of s)) based r on) a);
           same_n = refl;
           same_own = refl;
         })
@@ -114,7 +113,7 @@ heard_struck s p k m = go (eqb p s.own) refl
     go true e = excluded s p k (eqb-true _ _ e)
     go false e = other_struck s p (newly s.live p) k m (eqb-false _ _ e)
 
-pub failed_onward : (s : Station) (w : Whom) → Sound s → move_of (state_of s) Heard ≡ runs → Onward s (failed s w).station
+pub failed_onward : (s : Station) (w : Option ℕ) → Sound s → move_of (state_of s) Heard ≡ runs → Onward s (failed s w).station
 unfolding failed
-failed_onward s Nobody k m = record { kept = k; same_n = refl; same_own = refl }
-failed_onward s (Member p) k m = heard_struck s p k m
+failed_onward s None k m = record { kept = k; same_n = refl; same_own = refl }
+failed_onward s (Some p) k m = heard_struck s p k m

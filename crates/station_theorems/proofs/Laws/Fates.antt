@@ -7,7 +7,7 @@ use mathlib.Core.Logic.{◌⊎◌, inl, inr}
 use Rattle.parts.specs.Messages.{all, only, has_place}
 use Rattle.wholeness.specs.Whole.{apart}
 use Rattle.parts.specs.declared.list.Message.{Message}
-use Rattle.parts.specs.declared.frame.Whom.{Whom}
+use Rattle.std.specs.Prelude.{Option, ℕ}
 use Rattle.station.specs.declared.station.Station.{Station}
 use Rattle.station.specs.declared.station.Answer.{Answer}
 use Rattle.station_theorems.specs.Leaves.{waits_to, flying, AnswerLeaves}
@@ -19,7 +19,7 @@ and_parts : (b c : Bool) → (b && c) ≡ true → (b ≡ true) × (c ≡ true)
 and_parts true c e = (refl, e)
 and_parts false c e = absurd (false≢true e)
 
-module _ (s : Station) (places : apart [] (all s.sends) ≡ true) (a : Answer) (w : Whom) (flew landed : Bool) (k : AnswerLeaves s w flew landed a) where
+module _ (s : Station) (places : apart [] (all s.sends) ≡ true) (a : Answer) (w : Option ℕ) (flew landed : Bool) (k : AnswerLeaves s w flew landed a) where
   abbrev ms : List Message
   ms = all s.sends
 

@@ -11,7 +11,7 @@ use Rattle.codec.proofs.Laws.Order.{none_holds}
 use Rattle.parts.specs.Choose.{pick}
 use Rattle.parts.specs.Moves.{is_idle, is_waiting, is_excluded}
 use Rattle.parts.specs.Messages.{all, pushed, has_place, lowest_free}
-use Rattle.parts.specs.Frames.{no_flight, fit}
+use Rattle.parts.specs.Frames.{fit}
 use Rattle.station.specs.Strike.{Struck}
 use Rattle.station.specs.Stations.{state_of, awaited_of, alone, add_up_to, with_lost, with_receives}
 use Rattle.station.specs.Heard.{Stored, is_last, nothing_more, heard_message, receive, stored, handle}
@@ -23,7 +23,7 @@ use Rattle.parts.specs.declared.frame.InformationFrame.{InformationFrame}
 use Rattle.parts.specs.declared.frame.Frame.{Frame}
 use Rattle.parts.specs.declared.frame.Frame.TheVariants.{Token, Transmit, Information}
 use Rattle.station.specs.declared.station.Station.{Station}
-use Rattle.station.specs.declared.station.Payload.TheVariants.{NoPayload, Of}
+use Rattle.std.specs.Prelude.{None, Some}
 use Rattle.station_theorems.proofs.Laws.Places.{lowest_free_free, lowest_free_room}
 use Rattle.parts.proofs.Laws.Tests.{hold}
 use Rattle.station_theorems.proofs.Laws.Kept.{list_pushed, push_length}
@@ -45,22 +45,22 @@ pub idle_company : (st : State) (a : Bool) → st ≡ Idle → company_good st a
 unfolding company_good
 idle_company st a i e = not-true a (ap (λ (x : State). company_good x a) (sym i) ∙ e)
 
-pub idle_based : (s : Station) → Sound s → state_of s ≡ Idle → Based no_flight s
+pub idle_based : (s : Station) → Sound s → state_of s ≡ Idle → Based None s
 unfolding own_seat
 idle_based s k i =
     let r = ringed s.n s.limit s.own k.ring in
     let t : Seats Idle s.n s.own s.live = rw i at (seated (state_of s) s.n s.own s.live k.shaped.seats r.most_members r.member k.seats) in
-    based_on s k no_flight (idle_flight (state_of s) s.n s.own s.sends (awaited_of s) (ap is_waiting i) k.awaited) (ap is_excluded i) t.itself
+    based_on s k None (idle_flight (state_of s) s.n s.own s.sends (awaited_of s) (ap is_waiting i) k.awaited) (ap is_excluded i) t.itself
 
 -- ---- a heard message is stored or lost, then a frame is sent
 
 -- a station between two turns that is not alone
 pub record Ready (s t : Station) : Type 0 where
-  pub based : Based no_flight t
+  pub based : Based None t
   pub others : alone t ≡ false
   pub same_n : t.n ≡ s.n
 
-module _ (s : Station) (b : Based no_flight s) (a : alone s ≡ false) (from : ℕ) (low : from < s.n) (o : from ≡ s.own → ⊥) where
+module _ (s : Station) (b : Based None s) (a : alone s ≡ false) (from : ℕ) (low : from < s.n) (o : from ≡ s.own → ⊥) where
   stored_one : (m : Message) → s.receives.len < 16 → message_good s.n s.own m ≡ true → has_place (all s.receives) m.place ≡ false
       → Ready s (with_receives s (pushed s.receives m))
   stored_one m room good free =
@@ -111,8 +111,8 @@ module _ (s : Station) (b : Based no_flight s) (a : alone s ≡ false) (from : �
       go : (t : Bool) → leb 16 s.receives.len ≡ t
           → Ready s
           (pick {A = Stored} t
-          (record { station = with_lost s (add_up_to s.counts.lost 1); payload = NoPayload })
-          (record { station = with_receives s (pushed s.receives m); payload = Of m })
+          (record { station = with_lost s (add_up_to s.counts.lost 1); payload = None })
+          (record { station = with_receives s (pushed s.receives m); payload = Some m })
           ).station
       go true t = lost_one _
       go false t =

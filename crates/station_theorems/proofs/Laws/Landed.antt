@@ -6,7 +6,7 @@ use Prim.Native.Nat.{ℕ, ◌≤◌}
 use native.Mathlib.Omega.{arith}
 use lib.ListN.{length}
 use Rattle.parts.specs.Messages.{all, flies, fits, only}
-use Rattle.parts.specs.Frames.{number_of, flight, failing_of}
+use Rattle.parts.specs.Frames.{number_of, flight, failing_of, Dispatch}
 use Rattle.station.specs.Strike.{Struck}
 use Rattle.station.specs.Stations.{awaited_of, with_turn, with_sends, quiet}
 use Rattle.station.specs.Heard.{Stored, acknowledged, landed, acknowledge, failed, receive, stored, handle, respond, heard}
@@ -16,14 +16,11 @@ use Rattle.parts.specs.declared.moves.State.TheVariants.{Idle}
 use Rattle.parts.specs.declared.list.Message.{Message}
 use Rattle.parts.specs.declared.list.Messages.{Messages}
 use Rattle.parts.specs.declared.list.Which.TheVariants.{WaitingFor, HasPlace}
-use Rattle.parts.specs.declared.frame.Whom.{Whom}
-use Rattle.parts.specs.declared.frame.Whom.TheVariants.{Nobody, Member}
+use Rattle.std.specs.Prelude.{Option, None, Some}
 use Rattle.parts.specs.declared.frame.Frame.{Frame}
 use Rattle.parts.specs.declared.frame.Frame.TheVariants.{Token, Transmit, Information}
-use Rattle.parts.specs.declared.frame.Dispatch.{Dispatch}
-use Rattle.parts.specs.declared.frame.Dispatch.TheVariants.{Nothing}
 use Rattle.station.specs.declared.station.Station.{Station}
-use Rattle.parts.proofs.Laws.Choose.{pick_true, pick_false}
+use Rattle.parts.proofs.Laws.Choose.{pick_true, pick_false, map_or_keeps, map_or_either}
 use Rattle.parts.proofs.Laws.Messages.{only_length}
 use Rattle.station_theorems.specs.Leaves.{waits_to, flying, Leaves, AnswerLeaves, another_than, stops}
 use Rattle.station_theorems.proofs.Laws.Kept.{apart_only}
@@ -40,7 +37,7 @@ module _ (s : Station) (from k : ℕ) where
   unfolding acknowledge landed
   acknowledge_only =
       pick_either (λ (t : Station). t ≡ with_turn (with_sends s t.sends) t.turn) (acknowledged s from k) _ s
-      (λ e. pick_either (λ (t : Station). quiet t Idle ≡ with_turn (with_sends s t.sends) (quiet t Idle).turn) (flight (awaited_of s)).on _ s (λ g. refl) (λ g. refl))
+      (λ e. map_or_keeps (λ (t : Station). quiet t Idle ≡ with_turn (with_sends s t.sends) (quiet t Idle).turn) _ (flight (awaited_of s)) s (λ p. refl) refl)
       (λ e. refl)
 
   pub not_acknowledged : acknowledged s from k ≡ false → acknowledge s from k ≡ s
@@ -48,7 +45,7 @@ module _ (s : Station) (from k : ℕ) where
   not_acknowledged e = pick_false _ _ e
 
   module _ (e : acknowledged s from k ≡ true) where
-    acknowledged_awaits : awaited_of (acknowledge s from k) ≡ Nothing
+    acknowledged_awaits : awaited_of (acknowledge s from k) ≡ None
     unfolding acknowledge
     acknowledged_awaits = ap awaited_of (pick_true _ _ e)
 
@@ -56,32 +53,32 @@ module _ (s : Station) (from k : ℕ) where
     unfolding acknowledge landed
     acknowledged_sends =
         ap (λ (t : Station). all t.sends) (pick_true {b = acknowledged s from k} (quiet (landed s) Idle) s e)
-        ∙ pick_either (λ (t : Station). all t.sends ≡ only (λ (m : Message). not (flying s m)) (all s.sends)) (flight (awaited_of s)).on _ s
-        (λ on. split_kept (HasPlace _) s.sends ∙ only_same _ _ (λ m. ap not (sym (flies_at (flight (awaited_of s)) on m))) (all s.sends))
+        ∙ map_or_either (λ (t : Station). all t.sends ≡ only (λ (m : Message). not (flying s m)) (all s.sends)) _ (flight (awaited_of s)) s
+        (λ p on. split_kept (HasPlace _) s.sends ∙ only_same _ _ (λ m. ap not (sym (flies_at (flight (awaited_of s)) p on m))) (all s.sends))
         (λ off. sym (only_all _ (λ m. ap not (flies_not (flight (awaited_of s)) off m)) (all s.sends)))
 
 -- what the failing station does is the same before and after it
 module _ (s t : Station) (e : t ≡ with_turn (with_sends s t.sends) t.turn) where
-  same_another : (w : Whom) → another_than t.own w ≡ another_than s.own w
+  same_another : (w : Option ℕ) → another_than t.own w ≡ another_than s.own w
   same_another w = ap (λ (u : Station). another_than u.own w) e
 
-  same_stops : (w : Whom) → stops t w ≡ stops s w
-  same_stops Nobody = refl
-  same_stops (Member p) = ap (λ (u : Station). stops u (Member p)) e
+  same_stops : (w : Option ℕ) → stops t w ≡ stops s w
+  same_stops None = refl
+  same_stops (Some p) = ap (λ (u : Station). stops u (Some p)) e
 
 -- the one in flight has landed in t; then those that leave t leave s too
-module _ (s t u : Station) (gone : Messages) (w : Whom) (flew : Bool)
-    (landed' : all t.sends ≡ only (λ (m : Message). not (flying s m)) (all s.sends)) (awaits : awaited_of t ≡ Nothing) where
+module _ (s t u : Station) (gone : Messages) (w : Option ℕ) (flew : Bool)
+    (landed' : all t.sends ≡ only (λ (m : Message). not (flying s m)) (all s.sends)) (awaits : awaited_of t ≡ None) where
   ms : List Message
   ms = all s.sends
 
   none_flies : (m : Message) → flying t m ≡ false
   none_flies m = ap (λ (d : Dispatch). flies (flight d) m) awaits
 
-  waits_both : (w : Whom) (m : Message) → (not (flying s m) && waits_to t w m) ≡ waits_to s w m
+  waits_both : (w : Option ℕ) (m : Message) → (not (flying s m) && waits_to t w m) ≡ waits_to s w m
   unfolding fits
-  waits_both Nobody m = and-false (not (flying s m))
-  waits_both (Member p) m = ap (λ (d : Dispatch). not (flying s m) && fits (WaitingFor (flight d) p) m) awaits
+  waits_both None m = and-false (not (flying s m))
+  waits_both (Some p) m = ap (λ (d : Dispatch). not (flying s m) && fits (WaitingFor (flight d) p) m) awaits
 
   pub leaves_landed : Leaves t u gone w flew false → Leaves s u gone w (flew && false) true
   unfolding ms
@@ -124,7 +121,7 @@ stored_sends s from (Token t) = refl
 stored_sends s from (Transmit t) = refl
 stored_sends s from (Information i) = receive_sends s _
 
-respond_leaves : (s : Station) (k : Struck) (w : Whom) (flew landed : Bool) (from to : ℕ) (f : Frame) → Leaves s k.station k.gone w flew landed
+respond_leaves : (s : Station) (k : Struck) (w : Option ℕ) (flew landed : Bool) (from to : ℕ) (f : Frame) → Leaves s k.station k.gone w flew landed
     → AnswerLeaves s w flew landed (respond k from to f)
 unfolding respond handle
 respond_leaves s k w flew landed from to f l =
@@ -136,7 +133,7 @@ module _ (s : Station) (a : apart [] (all s.sends) ≡ true) (h : length (all s.
   unfolding heard
   heard_leaves f from to = respond_leaves s (failed t w) (another_than s.own w) _ _ from to f (go (acknowledged s from (number_of f)) refl)
     where
-      w : Whom
+      w : Option ℕ
       w = failing_of f
 
       t : Station
@@ -160,13 +157,13 @@ module _ (s : Station) (a : apart [] (all s.sends) ≡ true) (h : length (all s.
 
   -- ---- the last timer
 
-  unanswered_leaves : (to : ℕ) → Leaves s (unanswered s to).station (unanswered s to).gone (Member to) true false
+  unanswered_leaves : (to : ℕ) → Leaves s (unanswered s to).station (unanswered s to).gone (Some to) true false
   unfolding unanswered
   unanswered_leaves to = leaves_then _ _ _ _ _ _ _ (both_leave s to a h) refl
 
-  pub last_leaves : (to : ℕ) (f : Frame) → AnswerLeaves s (Member to) true false (after_strike (unanswered s to) to f)
+  pub last_leaves : (to : ℕ) (f : Frame) → AnswerLeaves s (Some to) true false (after_strike (unanswered s to) to f)
   unfolding after_strike
   last_leaves to f =
-      pick_either (AnswerLeaves s (Member to) true false) _ _ _
+      pick_either (AnswerLeaves s (Some to) true false) _ _ _
       (λ e. leaves_then _ _ _ _ _ _ _ (unanswered_leaves to) refl)
       (λ e. leaves_then _ _ _ _ _ _ _ (unanswered_leaves to) refl)

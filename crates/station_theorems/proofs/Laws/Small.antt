@@ -1,5 +1,5 @@
 -- Numbers that stay within their types' ranges where wholeness says nothing of them: frame numbers, priorities, counts. Assumes nothing.
-use mathlib.Core.Path.{◌≡◌, refl}
+use mathlib.Core.Path.{◌≡◌, refl, subst}
 use mathlib.Core.Bool.{Bool, true, false, not}
 use mathlib.Core.List.{List, [], ◌∷◌}
 use Prim.Native.Nat.{ℕ, ◌+◌, ◌-◌, ◌<◌, ◌≤◌}
@@ -7,9 +7,10 @@ use native.Mathlib.Omega.{arith}
 use lib.Dec.{leb, ltb, eqb}
 use lib.ListN.{length, length-take}
 use borrow.Author.Tests.{leb-true, ltb-true, ltb-false, lt-ltb}
+use Rattle.parts.proofs.Laws.Choose.{map_or_either}
 use Rattle.codec.specs.Order.{first_of}
 use Rattle.parts.specs.Choose.{pick, every}
-use Rattle.parts.specs.Messages.{all, pushed, only, fits, split_by, no_best, the_best, better_of, best_of, best}
+use Rattle.parts.specs.Messages.{all, pushed, only, fits, split_by, better_of, best_of, best}
 use Rattle.parts.specs.Live.{live_at}
 use Rattle.parts.specs.Frames.{next}
 use Rattle.station.specs.Stations.{add_up_to}
@@ -17,9 +18,7 @@ use Rattle.sent.specs.Round.{priority_of, start_round, send_head, grant, returne
 use Rattle.parts.specs.declared.list.Message.{Message}
 use Rattle.parts.specs.declared.list.Messages.{Messages}
 use Rattle.parts.specs.declared.list.Which.{Which}
-use Rattle.parts.specs.declared.list.Best.{Best}
-use Rattle.parts.specs.declared.frame.Whom.{Whom}
-use Rattle.parts.specs.declared.frame.Whom.TheVariants.{Nobody}
+use Rattle.std.specs.Prelude.{Option, None, Some}
 use Rattle.parts.specs.declared.frame.TokenFrame.{TokenFrame}
 use Rattle.parts.specs.declared.frame.Frame.{Frame}
 use Rattle.parts.specs.declared.frame.Frame.TheVariants.{Token, Transmit, Information}
@@ -68,15 +67,15 @@ push_small l m h p = go (ltb l.len 16) refl
 
 -- ---- the best of a list
 
-abbrev pub SmallBest : Best → Type 0
-SmallBest b = b.message.priority < 256
+abbrev pub SmallBest : Option Message → Type 0
+SmallBest b = priority_of b < 256
 
-better_small : (w : Which) (b : Best) (m : Message) → SmallBest b → m.priority < 256 → SmallBest (better_of w b m)
+better_small : (w : Which) (b : Option Message) (m : Message) → SmallBest b → m.priority < 256 → SmallBest (better_of w b m)
 unfolding better_of
 better_small w b m p q =
-    pick_keeps SmallBest (fits w m) _ _ (pick_keeps SmallBest b.some _ _ (pick_keeps SmallBest _ (the_best m) b q p) q) p
+    pick_keeps SmallBest (fits w m) _ _ (pick_keeps SmallBest _ (Some m) b q p) p
 
-bests_small : (w : Which) (ms : List Message) (b : Best) → every small_message ms ≡ true → SmallBest b → SmallBest (best_of w ms b)
+bests_small : (w : Which) (ms : List Message) (b : Option Message) → every small_message ms ≡ true → SmallBest b → SmallBest (best_of w ms b)
 unfolding best_of
 bests_small w [] b e p = p
 bests_small w (m ∷ ms) b e p =
@@ -85,7 +84,7 @@ bests_small w (m ∷ ms) b e p =
 
 pub best_small : (w : Which) (l : Messages) → SmallList l → SmallBest (best w l)
 unfolding best
-best_small w l h = bests_small w (all l) no_best h.messages (omega arith)
+best_small w l h = bests_small w (all l) None h.messages (omega arith)
 
 -- ---- counts and numbers
 
@@ -100,15 +99,15 @@ next_small k = omega arith
 
 module _ (v : Sight) (h : SmallBest v.head) (k : ℕ) (small : k < 65536) where
   pub own_small : priority_of v.head < 256
-  own_small = pick_keeps (λ (x : ℕ). x < 256) v.head.some _ 0 h (omega arith)
+  own_small = h
 
-  pub start_small : (w : Whom) → SmallDispatch (start_round v k w)
+  pub start_small : (w : Option ℕ) → SmallDispatch (start_round v k w)
   unfolding start_round
   start_small w = record { number = small; priority = own_small }
 
   pub send_small : SmallDispatch (send_head v k)
   unfolding send_head
-  send_small = pick_keeps SmallDispatch v.head.some _ _ (record { number = small; priority = h }) (start_small _)
+  send_small = map_or_either SmallDispatch _ v.head _ (λ m e. record { number = small; priority = subst SmallBest e h }) (λ e. start_small _)
 
   grant_small : (priority named : ℕ) → priority < 256 → SmallDispatch (grant v k priority named)
   unfolding grant
@@ -119,7 +118,7 @@ module _ (v : Sight) (h : SmallBest v.head) (k : ℕ) (small : k < 65536) where
   returned_small priority named p =
       go (eqb priority 0) (eqb named v.own)
     where
-      go : (a b : Bool) → SmallDispatch (first_of (grant v k priority named) ((a, start_round v k Nobody) ∷ (b, send_head v k) ∷ []))
+      go : (a b : Bool) → SmallDispatch (first_of (grant v k priority named) ((a, start_round v k None) ∷ (b, send_head v k) ∷ []))
       go true b = start_small _
       go false true = send_small
       go false false = grant_small priority named p

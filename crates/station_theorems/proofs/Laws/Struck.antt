@@ -9,9 +9,9 @@ use lib.ListN.{length}
 use borrow.Author.Tests.{eqb-false, eq-eqb, ne_eqb, not-true}
 use Rattle.parts.specs.Choose.{pick, every}
 use Rattle.parts.specs.Moves.{move_of, runs, is_excluded}
-use Rattle.parts.specs.Messages.{all, flies, fits, only, pack, split_by, best, best_of, no_best}
+use Rattle.parts.specs.Messages.{all, flies, fits, only, pack, split_by, best, best_of}
 use Rattle.parts.specs.Live.{live_at, without}
-use Rattle.parts.specs.Frames.{no_flight, flight}
+use Rattle.parts.specs.Frames.{flight, Dispatch}
 use Rattle.station.specs.Stations.{state_of, awaited_of, alone, counted}
 use Rattle.station.specs.Strike.{Loss, strike, give_up_to, leave, give_up_at, give_up_flight}
 use Rattle.wholeness.specs.Whole.{own_seat, other_seat, company_good, list_good, waits_well, waiters_good, same_message, carried, awaited_good}
@@ -20,17 +20,15 @@ use Rattle.parts.specs.declared.moves.Event.TheVariants.{Heard}
 use Rattle.parts.specs.declared.live.Live.{Live}
 use Rattle.parts.specs.declared.list.Message.{Message}
 use Rattle.parts.specs.declared.list.Messages.{Messages}
-use Rattle.parts.specs.declared.list.Flight.{Flight}
-use Rattle.parts.specs.declared.list.Best.{Best}
 use Rattle.parts.specs.declared.list.Which.TheVariants.{WaitingFor, HasPlace}
 use Rattle.parts.specs.declared.frame.Frame.TheVariants.{Token, Transmit, Information}
-use Rattle.parts.specs.declared.frame.Dispatch.{Dispatch}
-use Rattle.parts.specs.declared.frame.Dispatch.TheVariants.{Nothing, Sent}
+use Rattle.std.specs.Prelude.{Option, None, Some, is_some}
+use Rattle.std.proofs.lemmas.Option.{none-some}
 use Rattle.station.specs.declared.station.Station.{Station}
-use Rattle.parts.proofs.Laws.Choose.{pick_true, pick_false}
+use Rattle.parts.proofs.Laws.Choose.{pick_true, pick_false, map_or_either}
 use Rattle.parts.proofs.Laws.Messages.{only_length}
 use Rattle.station_theorems.proofs.Laws.States.{heard_cases}
-use Rattle.parts.proofs.Laws.Tests.{held, hold, each_weaker}
+use Rattle.parts.proofs.Laws.Tests.{held, hold}
 use Rattle.station_theorems.proofs.Laws.Kept.{each_taken, list_only, list_length, pack_all, pack_length}
 use Rattle.station_theorems.proofs.Laws.Carried.{best_only}
 use Rattle.station_theorems.proofs.Laws.Seats.{seating, struck_other, struck_length, struck_fewer}
@@ -47,15 +45,15 @@ module _ (n own : ℕ) (l : Messages) (good : list_good n own l ≡ true) (g : M
 module _ (l : Messages) (g : Message → Bool) where
   pub best_kept : (p : ℕ) → ((m : Message) → m.place ≡ p → g m ≡ true) → best (HasPlace p) (pack (only g (all l))) ≡ best (HasPlace p) l
   unfolding best
-  best_kept p w = ap (λ (ms : List Message). best_of (HasPlace p) ms no_best) (pack_all (only g (all l))) ∙ best_only p g w (all l) no_best
+  best_kept p w = ap (λ (ms : List Message). best_of (HasPlace p) ms None) (pack_all (only g (all l))) ∙ best_only p g w (all l) None
 
   pub awaited_kept : (st : State) (n own : ℕ) (d : Dispatch) → ((m : Message) → flies (flight d) m ≡ true → g m ≡ true)
       → awaited_good st n own l d ≡ true → awaited_good st n own (pack (only g (all l))) d ≡ true
   unfolding awaited_good carried
-  awaited_kept st n own Nothing w e = e
-  awaited_kept st n own (Sent (Token t) to) w e = e
-  awaited_kept st n own (Sent (Transmit t) to) w e = e
-  awaited_kept st n own (Sent (Information i) to) w e =
+  awaited_kept st n own None w e = e
+  awaited_kept st n own (Some (Token t, to)) w e = e
+  awaited_kept st n own (Some (Transmit t, to)) w e = e
+  awaited_kept st n own (Some (Information i, to)) w e =
       let t = held _ e in
       hold _ (
         t.0,
@@ -65,7 +63,7 @@ module _ (l : Messages) (g : Message → Bool) where
             t.1.1.0,
             (
               t.1.1.1.0,
-              (ap (λ (b : Best). same_message b to i) (best_kept i.place (λ m q. w m (eq-eqb i.place m.place (sym q)))) ∙ t.1.1.1.1.0, tt),
+              (ap (λ (b : Option Message). same_message b to i) (best_kept i.place (λ m q. w m (eq-eqb i.place m.place (sym q)))) ∙ t.1.1.1.1.0, tt),
             ),
           ),
         ),
@@ -73,17 +71,17 @@ module _ (l : Messages) (g : Message → Bool) where
 
 -- ---- waiting messages
 
-abbrev pub staying : Flight → ℕ → Message → Bool
+abbrev pub staying : Option ℕ → ℕ → Message → Bool
 staying f p m = not (fits (WaitingFor f p) m)
 
 abbrev pub elsewhere : ℕ → Message → Bool
 elsewhere p m = not (fits (HasPlace p) m)
 
-pub flies_stays : (f : Flight) (p : ℕ) (m : Message) → flies f m ≡ true → staying f p m ≡ true
+pub flies_stays : (f : Option ℕ) (p : ℕ) (m : Message) → flies f m ≡ true → staying f p m ≡ true
 unfolding fits
 flies_stays f p m e = ap (λ (t : Bool). not (not t && eqb m.other p)) e
 
-struck_waits : (l : Live) (f : Flight) (p : ℕ) (m : Message) → waits_well l f m ≡ true → staying f p m ≡ true → waits_well (without l p) f m ≡ true
+struck_waits : (l : Live) (f : Option ℕ) (p : ℕ) (m : Message) → waits_well l f m ≡ true → staying f p m ≡ true → waits_well (without l p) f m ≡ true
 unfolding waits_well fits
 struck_waits l f p m = go (flies f m)
   where
@@ -91,24 +89,15 @@ struck_waits l f p m = go (flies f m)
     go true e q = refl
     go false e q = struck_other l p m.other (eqb-false m.other p (not-true _ q)) ∙ e
 
-left_waits : (l : Live) (f : Flight) (m : Message) → waits_well l f m ≡ true → elsewhere f.place m ≡ true → waits_well l no_flight m ≡ true
+left_waits : (l : Live) (p : ℕ) (m : Message) → waits_well l (Some p) m ≡ true → elsewhere p m ≡ true → waits_well l None m ≡ true
 unfolding waits_well fits
-left_waits l f m e q =
-    let off : eqb f.place m.place ≡ false = ne_eqb _ _ (λ r. eqb-false m.place f.place (not-true _ q) (sym r)) in
-    go f.on (eqb f.place m.place) off e
-  where
-    go : (t u : Bool) → u ≡ false → ((t && u) || live_at l m.other) ≡ true → live_at l m.other ≡ true
-    go true true o e = absurd (false≢true (sym o))
-    go true false o e = e
-    go false u o e = e
-
-still_waits : (l : Live) (f : Flight) (m : Message) → f.on ≡ false → waits_well l f m ≡ true → waits_well l no_flight m ≡ true
-unfolding waits_well
-still_waits l f m o e = ap (λ (t : Bool). (t && eqb f.place m.place) || live_at l m.other) (sym o) ∙ e
+left_waits l p m e q =
+    let off : eqb p m.place ≡ false = ne_eqb _ _ (λ r. eqb-false m.place p (not-true _ q) (sym r)) in
+    ap (λ (t : Bool). t || live_at l m.other) (sym off) ∙ e
 
 -- ---- a station between two turns
 
-module _ (s : Station) (f : Flight) (b : Based f s) where
+module _ (s : Station) (f : Option ℕ) (b : Based f s) where
   -- another is struck, and waiting messages to it leave
   pub struck_based : (p : ℕ) → (p ≡ s.own → ⊥) → f ≡ flight (awaited_of s) → Based f (give_up_to (strike s p) p).station
   unfolding give_up_to split_by
@@ -129,20 +118,20 @@ module _ (s : Station) (f : Flight) (b : Based f s) where
         waits =
             ap (every (waits_well (without s.live p) f)) (pack_all (only g (all s.sends)))
             ∙ each_taken (waits_well s.live f) g (waits_well (without s.live p) f)
-            (λ m w t. struck_waits s.live f p m w (ap (λ (h : Flight). staying h p m) e ∙ t)) (all s.sends) b.waits;
-        flown = λ on.
-            ap (λ (x : Best). x.some)
-            (best_kept s.sends g f.place
-            (λ m q. flies_stays (flight (awaited_of s)) p m (ap (λ (h : Flight). flies h m) (sym e) ∙ ap (λ (t : Bool). t && eqb f.place m.place) on ∙ eq-eqb _ _ (sym q))))
-            ∙ b.flown on;
+            (λ m w t. struck_waits s.live f p m w (ap (λ (h : Option ℕ). staying h p m) e ∙ t)) (all s.sends) b.waits;
+        flown = λ r on.
+            ap (λ (x : Option Message). is_some x)
+            (best_kept s.sends g r
+            (λ m q. flies_stays (flight (awaited_of s)) p m (ap (λ (h : Option ℕ). flies h m) (sym e ∙ on) ∙ eq-eqb _ _ (sym q))))
+            ∙ b.flown r on;
         retries = b.retries;
       }
 
   -- the message in flight leaves
-  pub left_based : f.on ≡ true → Based no_flight (leave s f.place)
+  pub left_based : (p : ℕ) → f ≡ Some p → Based None (leave s p)
   unfolding split_by
-  left_based on =
-      let g : Message → Bool = elsewhere f.place in
+  left_based p on =
+      let g : Message → Bool = elsewhere p in
       record {
         shaped = record { seats = b.shaped.seats; sends = kept_length s.n s.own s.sends b.sends g; receives = b.shaped.receives };
         ring = b.ring;
@@ -151,14 +140,14 @@ module _ (s : Station) (f : Flight) (b : Based f s) where
         sends = list_only s.n s.own g s.sends b.sends;
         receives = b.receives;
         waits =
-            ap (every (waits_well s.live no_flight)) (pack_all (only g (all s.sends)))
-            ∙ each_taken (waits_well s.live f) g (waits_well s.live no_flight) (λ m w t. left_waits s.live f m w t) (all s.sends) b.waits;
-        flown = λ x. absurd (false≢true x);
+            ap (every (waits_well s.live None)) (pack_all (only g (all s.sends)))
+            ∙ each_taken (waits_well s.live f) g (waits_well s.live None) (λ m w t. left_waits s.live p m (ap (λ (h : Option ℕ). waits_well s.live h m) (sym on) ∙ w) t) (all s.sends) b.waits;
+        flown = λ p x. absurd (none-some _ x);
         retries = b.retries;
       }
 
   -- or none is in flight
-  pub still_based : f.on ≡ false → Based no_flight s
+  pub still_based : f ≡ None → Based None s
   still_based off =
       record {
         shaped = b.shaped;
@@ -167,8 +156,8 @@ module _ (s : Station) (f : Flight) (b : Based f s) where
         itself = b.itself;
         sends = b.sends;
         receives = b.receives;
-        waits = each_weaker (waits_well s.live f) (waits_well s.live no_flight) (λ m w. still_waits s.live f m off w) (all s.sends) b.waits;
-        flown = λ x. absurd (false≢true x);
+        waits = ap (λ (h : Option ℕ). every (waits_well s.live h) (all s.sends)) (sym off) ∙ b.waits;
+        flown = λ p x. absurd (none-some _ x);
         retries = b.retries;
       }
 
@@ -203,21 +192,16 @@ counted_sound s k h =
 
 -- ---- any message in flight is given up: the two ways
 
-pub flight_cases : (P : Loss → Type 0) (l : Loss) (f : Flight) → f ≡ flight (awaited_of l.station)
-    → (f.on ≡ true → (best (HasPlace f.place) l.station.sends).some ≡ true)
-    → (f.on ≡ false → P l)
-    → (f.on ≡ true → (g : Messages) → P (record { station = leave l.station f.place; gone = g }))
+pub flight_cases : (P : Loss → Type 0) (l : Loss) (f : Option ℕ) → f ≡ flight (awaited_of l.station)
+    → ((r : ℕ) → f ≡ Some r → is_some (best (HasPlace r) l.station.sends) ≡ true)
+    → (f ≡ None → P l)
+    → ((r : ℕ) → f ≡ Some r → (g : Messages) → P (record { station = leave l.station r; gone = g }))
     → P (give_up_flight l)
-unfolding give_up_flight give_up_at pick
-flight_cases P l f e w p q = rw (sym e) (go f.on refl)
+unfolding give_up_flight give_up_at
+flight_cases P l f e w p q = rw (sym e) (map_or_either P (give_up_at l) f l go p)
   where
-    at : (t : Bool) → (best (HasPlace f.place) l.station.sends).some ≡ t → f.on ≡ true → P (give_up_at l f.place)
-    at true r on = rw r (q on _)
-    at false r on = absurd (false≢true (sym r ∙ w on))
-
-    go : (t : Bool) → f.on ≡ t → P (pick t (give_up_at l f.place) l)
-    go true on = at (best (HasPlace f.place) l.station.sends).some refl on
-    go false off = p off
+    go : (r : ℕ) → f ≡ Some r → P (give_up_at l r)
+    go r on = map_or_either P _ (best (HasPlace r) l.station.sends) l (λ m i. q r on _) (λ i. absurd (false≢true (ap (λ (x : Option Message). is_some x) (sym i) ∙ w r on)))
 
 -- ---- a turn that stays: Idle or Waiting
 
@@ -233,7 +217,7 @@ heard_company : (st : State) (a : Bool) → move_of st Heard ≡ runs → a ≡ 
 unfolding company_good
 heard_company st a m e = heard_cases (λ (x : State). company_good x a ≡ true) (ap not e) (ap not e) st m
 
-pub waiters_all : (st : State) (l : Live) (f : Flight) (ms : List Message) → every (waits_well l f) ms ≡ true → waiters_good st l f ms ≡ true
+pub waiters_all : (st : State) (l : Live) (f : Option ℕ) (ms : List Message) → every (waits_well l f) ms ≡ true → waiters_good st l f ms ≡ true
 unfolding waiters_good
 waiters_all st l f ms e = go (is_excluded st)
   where

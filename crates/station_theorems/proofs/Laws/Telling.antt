@@ -7,19 +7,19 @@ use native.Mathlib.Omega.{arith}
 use lib.ListN.{get_or, set, length, replicate, length-append, length-replicate, length-set, length-take}
 use lib.Dec.{ltb, leb}
 use borrow.Author.Tests.{ltb-true, le-leb}
+use Rattle.parts.specs.Frames.{flight}
 use Rattle.parts.specs.Choose.{pick}
 use Rattle.parts.specs.Live.{live_at, without}
 use Rattle.parts.specs.Messages.{all, none, blank, pack, pushed, split_by}
-use Rattle.station.specs.Stations.{with_sends, add_up_to}
-use Rattle.station.specs.Strike.{Loss, strike, nothing_gone, give_up_to, give_up_at, give_up_flight, told}
+use Rattle.station.specs.Stations.{with_sends, add_up_to, awaited_of}
+use Rattle.station.specs.Strike.{Loss, strike, nothing_gone, give_up_to, give_up_at, give_up_flight, told, message_at}
 use Rattle.parts.specs.Live.{newly}
 use Rattle.parts.specs.declared.live.Live.{Live}
 use Rattle.parts.specs.declared.list.Message.{Message}
 use Rattle.parts.specs.declared.list.Messages.{Messages}
-use Rattle.parts.specs.declared.frame.Whom.{Whom}
-use Rattle.parts.specs.declared.frame.Whom.TheVariants.{Nobody, Member}
+use Rattle.std.specs.Prelude.{Option, None, Some}
 use Rattle.station.specs.declared.station.Station.{Station}
-use Rattle.parts.proofs.Laws.Choose.{pick_true, pick_false}
+use Rattle.parts.proofs.Laws.Choose.{pick_true, pick_false, map_or_keeps}
 
 -- what holds of both choices holds of the one picked
 pub pick_either : {A : Type 0} (P : A → Type 0) (b : Bool) (x y : A) → (b ≡ true → P x) → (b ≡ false → P y) → P (pick b x y)
@@ -49,11 +49,11 @@ struck_not_live l p = set_then l.on p
 
 -- ---- who is newly struck
 
-pub newly_live : (l : Live) (p : ℕ) → live_at l p ≡ true → newly l p ≡ Member p
+pub newly_live : (l : Live) (p : ℕ) → live_at l p ≡ true → newly l p ≡ Some p
 unfolding newly
 newly_live l p e = pick_true _ _ e
 
-pub newly_not : (l : Live) (p : ℕ) → live_at l p ≡ false → newly l p ≡ Nobody
+pub newly_not : (l : Live) (p : ℕ) → live_at l p ≡ false → newly l p ≡ None
 unfolding newly
 newly_not l p e = pick_false _ _ e
 
@@ -95,11 +95,11 @@ OnlySends s l = l.station ≡ with_sends s l.station.sends
 
 gives_up_at : (l : Loss) (p : ℕ) → OnlySends l.station (give_up_at l p)
 unfolding give_up_at
-gives_up_at l p = pick_either (OnlySends l.station) _ _ l (λ h. refl) (λ h. refl)
+gives_up_at l p = map_or_keeps (OnlySends l.station) _ (message_at l.station p) l (λ m. refl) refl
 
 pub gives_up_flight : (l : Loss) → (give_up_flight l).station ≡ with_sends l.station (give_up_flight l).station.sends
 unfolding give_up_flight
-gives_up_flight l = pick_either (OnlySends l.station) _ _ l (λ h. gives_up_at l _) (λ h. refl)
+gives_up_flight l = map_or_keeps (OnlySends l.station) _ (flight (awaited_of l.station)) l (λ p. gives_up_at l p) refl
 
 pub roomy_to : (s : Station) (p : ℕ) → Roomy (give_up_to s p).gone
 unfolding give_up_to split_by
@@ -110,11 +110,11 @@ RoomyLoss l = Roomy l.gone
 
 roomy_at : (l : Loss) (p : ℕ) → RoomyLoss l → RoomyLoss (give_up_at l p)
 unfolding give_up_at
-roomy_at l p r = pick_either RoomyLoss _ _ l (λ h. roomy_pushed _ _ r) (λ h. r)
+roomy_at l p r = map_or_keeps RoomyLoss _ (message_at l.station p) l (λ m. roomy_pushed _ _ r) r
 
 pub roomy_flight : (l : Loss) → Roomy l.gone → Roomy (give_up_flight l).gone
 unfolding give_up_flight
-roomy_flight l r = pick_either RoomyLoss _ _ l (λ h. roomy_at l _ r) (λ h. r)
+roomy_flight l r = map_or_keeps RoomyLoss _ (flight (awaited_of l.station)) l (λ p. roomy_at l p r) r
 
 -- ---- the count
 
@@ -136,16 +136,16 @@ counts_stop c k h i =
 -- ---- what a call that strikes a station, or nobody, leaves and tells, from s to t
 
 -- the live set without the struck station
-abbrev pub left : Live → Whom → Live
-left l Nobody = l
-left l (Member p) = without l p
+abbrev pub left : Live → Option ℕ → Live
+left l None = l
+left l (Some p) = without l p
 
 -- who is told: the struck station, if it was live
-abbrev pub newly_of : Live → Whom → Whom
-newly_of l Nobody = Nobody
-newly_of l (Member p) = newly l p
+abbrev pub newly_of : Live → Option ℕ → Option ℕ
+newly_of l None = None
+newly_of l (Some p) = newly l p
 
-pub record Tells (s t : Station) (w : Whom) (gone : Messages) (struck : Whom) : Type 0 where
+pub record Tells (s t : Station) (w : Option ℕ) (gone : Messages) (struck : Option ℕ) : Type 0 where
   pub live_left : t.live ≡ left s.live struck
   pub told_is : w ≡ newly_of s.live struck
   pub counted_up : t.counts.givenup ≡ add_up_to s.counts.givenup gone.len
@@ -156,12 +156,12 @@ pub record Same (s t : Station) : Type 0 where
   pub live_same : t.live ≡ s.live
   pub count_same : t.counts.givenup ≡ s.counts.givenup
 
-pub tells_none : (s t : Station) → Same s t → Tells s t Nobody none Nobody
+pub tells_none : (s t : Station) → Same s t → Tells s t None none None
 tells_none s t e =
     record { live_left = e.live_same; told_is = refl; counted_up = e.count_same ∙ sym (none_more s.counts.givenup); listed = roomy_none }
 
 -- steps before and after that touch neither the live set nor the count
-pub tells_through : (s t u v : Station) (w : Whom) (gone : Messages) (struck : Whom) → Same s t → Tells t u w gone struck → Same u v → Tells s v w gone struck
+pub tells_through : (s t u v : Station) (w : Option ℕ) (gone : Messages) (struck : Option ℕ) → Same s t → Tells t u w gone struck → Same u v → Tells s v w gone struck
 tells_through s t u v w gone struck before k after =
     record {
       live_left = after.live_same ∙ k.live_left ∙ ap (λ (l : Live). left l struck) before.live_same;
@@ -198,7 +198,7 @@ lost_flight s p l h =
     }
 
 -- the messages given up are counted and told
-pub tells_told : (s : Station) (l : Loss) (p : ℕ) → Lost s p l → Tells s (told l (newly s.live p)).station (newly s.live p) l.gone (Member p)
+pub tells_told : (s : Station) (l : Loss) (p : ℕ) → Lost s p l → Tells s (told l (newly s.live p)).station (newly s.live p) l.gone (Some p)
 tells_told s l p h =
     record {
       live_left = h.live_lost;
@@ -209,41 +209,41 @@ tells_told s l p h =
 
 -- with the message in flight given up too
 pub tells_flight : (s : Station) (l : Loss) (p : ℕ) → Lost s p l
-    → Tells s (told (give_up_flight l) (newly s.live p)).station (newly s.live p) (give_up_flight l).gone (Member p)
+    → Tells s (told (give_up_flight l) (newly s.live p)).station (newly s.live p) (give_up_flight l).gone (Some p)
 tells_flight s l p h = tells_told s (give_up_flight l) p (lost_flight s p l h)
 
 -- ---- who is told was struck, and was live
 
-member_of : Whom → ℕ
-member_of Nobody = 0
-member_of (Member p) = p
+member_of : Option ℕ → ℕ
+member_of None = 0
+member_of (Some p) = p
 
-someone : Whom → Bool
-someone Nobody = false
-someone (Member p) = true
+someone : Option ℕ → Bool
+someone None = false
+someone (Some p) = true
 
-pub nobody_no_member : (p : ℕ) → Nobody ≡ Member p → ⊥
+pub nobody_no_member : (p : ℕ) → None ≡ Some p → ⊥
 unfolding someone
 nobody_no_member p e = mathlib.Core.Bool.false≢true (ap someone e)
 
-pub same_member : (p q : ℕ) → Member p ≡ Member q → p ≡ q
+pub same_member : (p q : ℕ) → Some p ≡ Some q → p ≡ q
 unfolding member_of
 same_member p q e = ap member_of e
 
-pub told_struck : (l : Live) (w : Whom) (p : ℕ) → newly_of l w ≡ Member p → (w ≡ Member p) × (live_at l p ≡ true)
-told_struck l Nobody p e = absurd (nobody_no_member p e)
-told_struck l (Member q) p e = go (live_at l q) refl
+pub told_struck : (l : Live) (w : Option ℕ) (p : ℕ) → newly_of l w ≡ Some p → (w ≡ Some p) × (live_at l p ≡ true)
+told_struck l None p e = absurd (nobody_no_member p e)
+told_struck l (Some q) p e = go (live_at l q) refl
   where
-    go : (b : Bool) → live_at l q ≡ b → (Member q ≡ Member p) × (live_at l p ≡ true)
+    go : (b : Bool) → live_at l q ≡ b → (Some q ≡ Some p) × (live_at l p ≡ true)
     go true h =
-        let same : Member q ≡ Member p = sym (newly_live l q h) ∙ e in
+        let same : Some q ≡ Some p = sym (newly_live l q h) ∙ e in
         (same, ap (live_at l) (sym (same_member q p same)) ∙ h)
     go false h = absurd (nobody_no_member p (sym (newly_not l q h) ∙ e))
 
 -- where nobody is told, the live set stays
-pub nobody_left : (l : Live) (w : Whom) → newly_of l w ≡ Nobody → left l w ≡ l
-nobody_left l Nobody e = refl
-nobody_left l (Member p) e = go (live_at l p) refl
+pub nobody_left : (l : Live) (w : Option ℕ) → newly_of l w ≡ None → left l w ≡ l
+nobody_left l None e = refl
+nobody_left l (Some p) e = go (live_at l p) refl
   where
     go : (b : Bool) → live_at l p ≡ b → without l p ≡ l
     go true h = absurd (nobody_no_member p (sym e ∙ newly_live l p h))

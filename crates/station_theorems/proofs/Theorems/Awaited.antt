@@ -7,21 +7,19 @@ use Prim.Native.Nat.{ℕ, ◌<◌}
 use native.Mathlib.Omega.{arith}
 use borrow.Author.Tests.{ltb-true, ltb-false, leb-true, leb-false, eqb-true, eqb-false, not-true, lt-ltb, le-ltb, le-leb, lt-leb, eq-eqb, ne_eqb}
 use Rattle.parts.specs.Moves.{is_waiting}
-use Rattle.parts.specs.Messages.{all, fits, best, best_of, no_best, the_best}
-use Rattle.parts.specs.Frames.{member_or_nobody, fit}
+use Rattle.parts.specs.Messages.{all, fits, best, best_of}
+use Rattle.parts.specs.Frames.{member_or_nobody, fit, Dispatch}
 use Rattle.wholeness.specs.Whole.{apart, same_message, carried, awaited_good}
 use Rattle.parts.specs.declared.moves.State.{State}
 use Rattle.parts.specs.declared.list.Message.{Message}
 use Rattle.parts.specs.declared.list.Messages.{Messages}
-use Rattle.parts.specs.declared.list.Best.{Best}
 use Rattle.parts.specs.declared.list.Which.TheVariants.{HasPlace}
-use Rattle.parts.specs.declared.frame.Whom.{Whom}
-use Rattle.parts.specs.declared.frame.Whom.TheVariants.{Nobody, Member}
+use Rattle.std.specs.Prelude.{Option, None, Some}
+use Rattle.std.proofs.lemmas.Option.{none-some}
+use Rattle.parts.proofs.Laws.Frames.{same_frame, same_to}
 use Rattle.parts.specs.declared.frame.InformationFrame.{InformationFrame}
 use Rattle.parts.specs.declared.frame.Frame.{Frame}
 use Rattle.parts.specs.declared.frame.Frame.TheVariants.{Token, Transmit, Information}
-use Rattle.parts.specs.declared.frame.Dispatch.{Dispatch}
-use Rattle.parts.specs.declared.frame.Dispatch.TheVariants.{Nothing, Sent}
 use Rattle.station_theorems.specs.Awaited.{Fit, Carrying, Proper, Awaited}
 use Rattle.station_theorems.proofs.Laws.States.{waiting_is}
 use Rattle.parts.proofs.Laws.Tests.{held, hold}
@@ -32,13 +30,13 @@ use Rattle.station_theorems.proofs.Theorems.Head.{best_is_first}
 
 -- ---- fit to write: members, and fields in range
 
-failing_fits : (n : ℕ) (w : Whom) → member_or_nobody n w ≡ true → (p : ℕ) → w ≡ Member p → p < n
-failing_fits n Nobody e p q = absurd (let z : ◌≡◌ {A = ℕ} 0 1 = cc in omega arith)
-failing_fits n (Member r) e p q = let same : r ≡ p = cc in let h : r < n = ltb-true r n e in omega arith
+failing_fits : (n : ℕ) (w : Option ℕ) → member_or_nobody n w ≡ true → (p : ℕ) → w ≡ Some p → p < n
+failing_fits n None e p q = absurd (let z : ◌≡◌ {A = ℕ} 0 1 = cc in omega arith)
+failing_fits n (Some r) e p q = let same : r ≡ p = cc in let h : r < n = ltb-true r n e in omega arith
 
-fits_failing : (n : ℕ) (w : Whom) → ((p : ℕ) → w ≡ Member p → p < n) → member_or_nobody n w ≡ true
-fits_failing n Nobody k = refl
-fits_failing n (Member r) k = lt-ltb r n (k r refl)
+fits_failing : (n : ℕ) (w : Option ℕ) → ((p : ℕ) → w ≡ Some p → p < n) → member_or_nobody n w ≡ true
+fits_failing n None k = refl
+fits_failing n (Some r) k = lt-ltb r n (k r refl)
 
 pub fit_is : (n : ℕ) (f : Frame) → fit n f ≡ true → Fit n f
 fit_is n (Token t) e =
@@ -68,25 +66,29 @@ carries_is : (l : Messages) (f : Frame) (to : ℕ) → carried l f to ≡ true �
 unfolding carried same_message fits
 carries_is l (Token t) to e = tt
 carries_is l (Transmit t) to e = tt
-carries_is l (Information i) to e =
-    let t = held _ e in
-    let f = (best_is_first (HasPlace i.place) l).first t.0 in
-    record {
-      message = (best (HasPlace i.place) l).message;
-      there = standing f.before f.behind _ (all l) f.stands;
-      same_place = eqb-true _ _ f.fitting;
-      same_other = eqb-true _ _ t.1.0;
-      same_priority = eqb-true _ _ t.1.1.0;
-      same_channel = eqb-true _ _ t.1.1.1.0;
-      same_length = eqb-true _ _ t.1.1.1.1.0;
-    }
+carries_is l (Information i) to e = go (best (HasPlace i.place) l) refl e
+  where
+    go : (b : Option Message) → best (HasPlace i.place) l ≡ b → same_message b to i ≡ true → Carrying l (Information i) to
+    go None q e = absurd (false≢true e)
+    go (Some m) q e =
+        let t = held _ e in
+        let f = (best_is_first (HasPlace i.place) l).first m q in
+        record {
+          message = m;
+          there = standing f.before f.behind _ (all l) f.stands;
+          same_place = eqb-true _ _ f.fitting;
+          same_other = eqb-true _ _ t.0;
+          same_priority = eqb-true _ _ t.1.0;
+          same_channel = eqb-true _ _ t.1.1.0;
+          same_length = eqb-true _ _ t.1.1.1.0;
+        }
 
-same_as : (b : Best) (m : Message) (to : ℕ) (i : InformationFrame) → b ≡ the_best m → m.other ≡ to → m.priority ≡ i.priority → m.channel ≡ i.channel
+same_as : (b : Option Message) (m : Message) (to : ℕ) (i : InformationFrame) → b ≡ Some m → m.other ≡ to → m.priority ≡ i.priority → m.channel ≡ i.channel
     → m.length ≡ i.length → same_message b to i ≡ true
 unfolding same_message
 same_as b m to i e o p c l =
-    ap (λ (x : Best). same_message x to i) e
-    ∙ hold _ (refl, (eq-eqb m.other to o, (eq-eqb m.priority i.priority p, (eq-eqb m.channel i.channel c, (eq-eqb m.length i.length l, tt)))))
+    ap (λ (x : Option Message). same_message x to i) e
+    ∙ hold _ (eq-eqb m.other to o, (eq-eqb m.priority i.priority p, (eq-eqb m.channel i.channel c, (eq-eqb m.length i.length l, tt))))
 
 is_carried : (l : Messages) → apart [] (all l) ≡ true → (f : Frame) (to : ℕ) → Carrying l f to → carried l f to ≡ true
 unfolding carried best
@@ -95,20 +97,20 @@ is_carried l a (Transmit t) to k = refl
 is_carried l a (Information i) to k =
     let w = stood k.there in
     same_as _ k.message to i
-    (ap (λ (p : ℕ). best_of (HasPlace p) (all l) no_best) (sym k.same_place) ∙ best_found (all l) w.0 w.1 k.message a w.2)
+    (ap (λ (p : ℕ). best_of (HasPlace p) (all l) None) (sym k.same_place) ∙ best_found (all l) w.0 w.1 k.message a w.2)
     k.same_other k.same_priority k.same_channel k.same_length
 
 -- ---- the awaited frame
 
 pub awaited_is : (st : State) (n own : ℕ) (l : Messages) (d : Dispatch) → awaited_good st n own l d ≡ true → Awaited st n own l d
 unfolding awaited_good
-awaited_is st n own l Nothing e =
+awaited_is st n own l None e =
     record {
       one_when_waiting = λ q. absurd (false≢true (sym (not-true _ e) ∙ ap is_waiting q));
       none_otherwise = λ q. refl;
       each_proper = λ f to q. absurd (let z : ◌≡◌ {A = ℕ} 0 1 = cc in omega arith);
     }
-awaited_is st n own l (Sent f to) e =
+awaited_is st n own l (Some (f, to)) e =
     let t = held _ e in
     let p : Proper n own l f to =
     record {
@@ -121,27 +123,23 @@ awaited_is st n own l (Sent f to) e =
       one_when_waiting = λ q. (f, to, refl);
       none_otherwise = λ q. absurd (q (waiting_is st t.0));
       each_proper = λ g r q.
-          let same_frame : f ≡ g = cc in
-          let same_to : to ≡ r = cc in
-          subst (λ (x : Frame). Proper n own l x r) same_frame (subst (Proper n own l f) same_to p);
+          subst (λ (x : Frame). Proper n own l x r) (same_frame q) (subst (Proper n own l f) (same_to q) p);
     }
 
 pub is_awaited : (st : State) (n own : ℕ) (l : Messages) → apart [] (all l) ≡ true → (d : Dispatch) → Awaited st n own l d → awaited_good st n own l d ≡ true
 unfolding awaited_good
-is_awaited st n own l a Nothing k = go (is_waiting st) refl
+is_awaited st n own l a None k = go (is_waiting st) refl
   where
     go : (b : Bool) → is_waiting st ≡ b → not (is_waiting st) ≡ true
-    go true e = let r = k.one_when_waiting (waiting_is st e) in let q : Nothing ≡ Sent r.0 r.1 = r.2 in absurd (let z : ◌≡◌ {A = ℕ} 0 1 = cc in omega arith)
+    go true e = absurd (none-some _ (k.one_when_waiting (waiting_is st e)).2)
     go false e = ap not e
-is_awaited st n own l a (Sent f to) k = go (is_waiting st) refl
+is_awaited st n own l a (Some (f, to)) k = go (is_waiting st) refl
   where
     p : Proper n own l f to
     p = k.each_proper f to refl
 
-    go : (b : Bool) → is_waiting st ≡ b → awaited_good st n own l (Sent f to) ≡ true
+    go : (b : Bool) → is_waiting st ≡ b → awaited_good st n own l (Some (f, to)) ≡ true
     go true e =
         hold _
         (e, (is_fit n f p.fits_to_write, (lt-ltb to n p.member, (ap not (ne_eqb to own p.another), (is_carried l a f to p.carries, tt)))))
-    go false e =
-        let q : Sent f to ≡ Nothing = k.none_otherwise (λ w. false≢true (sym e ∙ ap is_waiting w)) in
-        absurd (let z : ◌≡◌ {A = ℕ} 0 1 = cc in omega arith)
+    go false e = absurd (none-some _ (sym (k.none_otherwise (λ w. false≢true (sym e ∙ ap is_waiting w)))))

@@ -24,8 +24,7 @@ use Rattle.parts.specs.declared.moves.Event.{Event}
 use Rattle.parts.specs.declared.moves.Event.TheVariants.{Start, Queue, Take}
 use Rattle.parts.specs.declared.list.Message.{Message}
 use Rattle.parts.specs.declared.request.Request.{Request}
-use Rattle.parts.specs.declared.frame.Whom.{Whom}
-use Rattle.parts.specs.declared.frame.Whom.TheVariants.{Nobody}
+use Rattle.std.specs.Prelude.{Option, None}
 use Rattle.parts.specs.declared.frame.Frame.{Frame}
 use Rattle.station.specs.declared.station.Station.{Station}
 use Rattle.station.specs.declared.station.Answer.{Answer}
@@ -57,7 +56,7 @@ few s h = omega (arith, length-take s.sends.len s.sends.items, h.most)
 -- ---- who leaves
 
 -- by what leaves
-leave_only : (s : Station) → SendsFit s → (a : Answer) (w : Whom) (flew landed : Bool) → AnswerLeaves s w flew landed a
+leave_only : (s : Station) → SendsFit s → (a : Answer) (w : Option ℕ) (flew landed : Bool) → AnswerLeaves s w flew landed a
     → (acked : Type 0) → (landed ≡ true → acked) → LeaveOnly s a acked
 leave_only s fit a w flew landed k acked why =
     record {
@@ -73,7 +72,7 @@ leave_only s fit a w flew landed k acked why =
 -- where the send list is kept, and none is told
 kept : (s : Station) → SendsFit s → (acked : Type 0) (a : Answer) → a.station.sends ≡ s.sends → a.gone ≡ none → LeaveOnly s a acked
 kept s fit acked a e g =
-    leave_only s fit a Nobody false false (subst (λ l. Leaves s a.station l Nobody false false) (sym g) (leaves_none s a.station e)) acked (λ z. absurd (false≢true z))
+    leave_only s fit a None false false (subst (λ l. Leaves s a.station l None false false) (sym g) (leaves_none s a.station e)) acked (λ z. absurd (false≢true z))
 
 -- ---- a heard frame: the one in flight leaves where the frame is heard, passes the checks and acknowledges the station
 

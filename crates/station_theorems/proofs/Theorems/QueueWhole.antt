@@ -6,9 +6,10 @@ use Prim.Native.Nat.{ℕ, ◌<◌}
 use native.Mathlib.Omega.{arith}
 use lib.ListN.{length, length-take}
 use borrow.Author.Tests.{lt-ltb, le-leb, ne_eqb}
+use Rattle.station_theorems.proofs.Laws.Based.{same_message_there}
 use Rattle.parts.specs.Choose.{pick, every}
 use Rattle.parts.specs.Moves.{is_excluded}
-use Rattle.parts.specs.Messages.{all, flies, pushed, has_place, lowest_free, best, best_of, no_best}
+use Rattle.parts.specs.Messages.{all, flies, pushed, has_place, lowest_free, best, best_of}
 use Rattle.parts.specs.Live.{live_at}
 use Rattle.station.specs.Queue.{new_message, accepted, queue_number, queue_rule}
 use Rattle.wholeness.specs.Whole.{message_good, waits_well, waiters_good, carried, awaited_good, same_message}
@@ -16,14 +17,12 @@ use Rattle.parts.specs.declared.moves.State.{State}
 use Rattle.parts.specs.declared.live.Live.{Live}
 use Rattle.parts.specs.declared.list.Message.{Message}
 use Rattle.parts.specs.declared.list.Messages.{Messages}
-use Rattle.parts.specs.declared.list.Flight.{Flight}
-use Rattle.parts.specs.declared.list.Best.{Best}
 use Rattle.parts.specs.declared.list.Which.TheVariants.{HasPlace}
 use Rattle.parts.specs.declared.request.Request.{Request}
 use Rattle.parts.specs.declared.frame.Frame.{Frame}
 use Rattle.parts.specs.declared.frame.Frame.TheVariants.{Token, Transmit, Information}
-use Rattle.parts.specs.declared.frame.Dispatch.{Dispatch}
-use Rattle.parts.specs.declared.frame.Dispatch.TheVariants.{Nothing, Sent}
+use Rattle.parts.specs.Frames.{Dispatch}
+use Rattle.std.specs.Prelude.{Option, None, Some}
 use Rattle.station.specs.declared.station.Station.{Station}
 use Rattle.parts.proofs.Laws.Choose.{pick_true, pick_false}
 use Rattle.station_theorems.specs.Shaped.{WholeStation}
@@ -35,7 +34,7 @@ use Rattle.station_theorems.proofs.Laws.Carried.{best_pushed}
 use Rattle.station_theorems.proofs.Laws.Sound.{Sound, whole_sound, whole_station, moved_sound, unless_sound}
 
 -- one more waiter, to a live station
-waiters_pushed : (st : State) (l : Live) (f : Flight) (ms : List Message) (m : Message) → live_at l m.other ≡ true
+waiters_pushed : (st : State) (l : Live) (f : Option ℕ) (ms : List Message) (m : Message) → live_at l m.other ≡ true
     → waiters_good st l f ms ≡ true → waiters_good st l f (ms ++ m ∷ []) ≡ true
 unfolding waiters_good waits_well
 waiters_pushed st l f ms m h = go (is_excluded st)
@@ -54,15 +53,15 @@ module _ (l : Messages) (m : Message) (full : length l.items ≡ 16) (room : l.l
   unfolding carried best same_message
   carried_pushed (Token t) to e = refl
   carried_pushed (Transmit t) to e = refl
-  carried_pushed (Information i) to e = ap (λ (b : Best). same_message b to i) same ∙ e
+  carried_pushed (Information i) to e = ap (λ (b : Option Message). same_message b to i) same ∙ e
     where
       same : best (HasPlace i.place) (pushed l m) ≡ best (HasPlace i.place) l
-      same = ap (λ (ms : List Message). best_of (HasPlace i.place) ms no_best) (push_all l m full room) ∙ best_pushed i.place (all l) m (held _ e).0 free
+      same = ap (λ (ms : List Message). best_of (HasPlace i.place) ms None) (push_all l m full room) ∙ best_pushed i.place (all l) m (same_message_there _ to i e) free
 
   awaited_pushed : (st : State) (n own : ℕ) (d : Dispatch) → awaited_good st n own l d ≡ true → awaited_good st n own (pushed l m) d ≡ true
   unfolding awaited_good
-  awaited_pushed st n own Nothing e = e
-  awaited_pushed st n own (Sent f to) e =
+  awaited_pushed st n own None e = e
+  awaited_pushed st n own (Some (f, to)) e =
       let t = held _ e in
       hold _ (t.0, (t.1.0, (t.1.1.0, (t.1.1.1.0, (carried_pushed f to t.1.1.1.1.0, tt)))))
 

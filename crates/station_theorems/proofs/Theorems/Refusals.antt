@@ -6,7 +6,7 @@ use Prim.Native.Nat.{ℕ}
 use native.Mathlib.Omega.{arith}
 use lib.Dec.{eqb, ltb}
 use Rattle.parts.specs.Choose.{pick}
-use Rattle.parts.specs.Frames.{number_of}
+use Rattle.parts.specs.Frames.{number_of, Dispatch}
 use Rattle.station.specs.Strike.{Struck}
 use Rattle.station.specs.Stations.{state_of, awaited_of, answered, moved, unless, alone}
 use Rattle.station.specs.Start.{started, start_rule}
@@ -18,8 +18,7 @@ use Rattle.parts.specs.declared.moves.State.TheVariants.{Idle}
 use Rattle.parts.specs.declared.moves.Event.{Event}
 use Rattle.parts.specs.declared.moves.Event.TheVariants.{Timer}
 use Rattle.parts.specs.declared.frame.Frame.{Frame}
-use Rattle.parts.specs.declared.frame.Dispatch.{Dispatch}
-use Rattle.parts.specs.declared.frame.Dispatch.TheVariants.{Nothing, Sent}
+use Rattle.std.specs.Prelude.{None, Some}
 use Rattle.parts.specs.declared.request.Request.{Request}
 use Rattle.station.specs.declared.station.Station.{Station}
 use Rattle.station.specs.declared.station.Answer.{Answer}
@@ -77,8 +76,8 @@ silence_done s to f = done_pick (ltb s.turn.retries s.limit) _ _ refl (strike_do
 
 timer_done : (s : Station) (d : Dispatch) → (on_timer s d).number ≡ 0
 unfolding on_timer
-timer_done s Nothing = refl
-timer_done s (Sent frame to) = silence_done s to frame
+timer_done s None = refl
+timer_done s (Some (frame, to)) = silence_done s to frame
 
 accept_done : (s : Station) (q : Request) → (accepted s q).number ≡ 0
 unfolding accepted

@@ -16,7 +16,7 @@ use Rattle.station.specs.Heard.{acknowledged, acknowledge, strike_other, strike_
 use Rattle.station.specs.Timer.{unanswered, after_strike, timer_rule}
 use Rattle.parts.specs.declared.moves.State.TheVariants.{Waiting}
 use Rattle.parts.specs.declared.moves.Event.TheVariants.{Heard}
-use Rattle.parts.specs.declared.frame.Whom.TheVariants.{Nobody, Member}
+use Rattle.std.specs.Prelude.{None, Some}
 use Rattle.parts.specs.declared.frame.Frame.{Frame}
 use Rattle.station.specs.declared.station.Station.{Station}
 use Rattle.station.specs.declared.station.Turn.{Turn}
@@ -53,7 +53,7 @@ pub strikes_nobody_new : (s : Station) (f : Frame) (to : ℕ) → Awaits s f to 
     → NobodyNew s (timer_rule s)
 strikes_nobody_new s f to w h dead =
     let h' : LastTimer s to = record { waits = w.waits; frame = f; awaits = w.awaits; last = h } in
-    let nobody : (timer_rule s).struck ≡ Nobody = (timer_strikes_addressee s to h').told_if_live ∙ newly_not s.live to dead in
+    let nobody : (timer_rule s).struck ≡ None = (timer_strikes_addressee s to h').told_if_live ∙ newly_not s.live to dead in
     record { nobody_told = nobody; live_same = (timer_strikes s).nobody_leaves nobody }
 
 -- ---- an addressee struck on hearing: the station still awaits the frame to it
@@ -74,7 +74,7 @@ unfolding acknowledge
 not_acknowledged s from k n = pick_false _ _ n
 
 struck_other : (s : Station) (p : ℕ) → (p ≡ s.own → ⊥) → alone (strike s p) ≡ false
-    → failed s (Member p) ≡ told (give_up_to (strike s p) p) (newly s.live p)
+    → failed s (Some p) ≡ told (give_up_to (strike s p) p) (newly s.live p)
 unfolding failed strike_heard strike_other
 struck_other s p o l = pick_false _ _ (ne_eqb _ _ o) ∙ pick_false _ _ l
 

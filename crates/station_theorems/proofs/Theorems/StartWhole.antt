@@ -8,7 +8,6 @@ use borrow.Author.Tests.{eqb-true, eqb-false}
 use Rattle.parts.specs.Choose.{pick}
 use Rattle.parts.specs.Moves.{is_waiting, is_excluded}
 use Rattle.parts.specs.Live.{live_at, successor}
-use Rattle.parts.specs.Frames.{no_flight}
 use Rattle.station.specs.Stations.{state_of, awaited_of, alone, answered, quiet}
 use Rattle.station.specs.Sight.{sight}
 use Rattle.sent.specs.Round.{start_round}
@@ -16,7 +15,7 @@ use Rattle.station.specs.Start.{sent_first, started, start_rule}
 use Rattle.wholeness.specs.Whole.{own_seat, other_seat}
 use Rattle.parts.specs.declared.moves.State.TheVariants.{Offline, Idle}
 use Rattle.parts.specs.declared.live.Live.{Live}
-use Rattle.parts.specs.declared.frame.Whom.TheVariants.{Nobody}
+use Rattle.std.specs.Prelude.{None}
 use Rattle.station.specs.declared.station.Station.{Station}
 use Rattle.station_theorems.specs.Whole.{Ring}
 use Rattle.station_theorems.specs.Shaped.{WholeStation}
@@ -50,17 +49,17 @@ module _ (s : Station) (k : Sound s) (off : state_of s ≡ Offline) where
   unfolding other_seat
   others = not_alone s.live s.n s.own ring.some_members ring.member all_live.others
 
-  based : Based no_flight s
+  based : Based None s
   unfolding own_seat
   based =
-      based_on s k no_flight (idle_flight (state_of s) s.n s.own s.sends (awaited_of s) (ap is_waiting off) k.awaited) (ap is_excluded off) all_live.itself
+      based_on s k None (idle_flight (state_of s) s.n s.own s.sends (awaited_of s) (ap is_waiting off) k.awaited) (ap is_excluded off) all_live.itself
 
   started_sound : Sound (started s).station
   unfolding started pick
   started_sound = go (eqb s.own 0)
     where
-      go : (b : Bool) → Sound (pick b (sent_first s (start_round (sight s) 0 Nobody)) (answered (quiet s Idle) 0)).station
-      go true = sends_off s based _ _ others (round_proper s ring.member k.sends others 0 Nobody refl)
+      go : (b : Bool) → Sound (pick b (sent_first s (start_round (sight s) 0 None)) (answered (quiet s Idle) 0)).station
+      go true = sends_off s based _ _ others (round_proper s ring.member k.sends others 0 None refl)
       go false = quiet_idle s based others
 
 start_sound : (s : Station) → Sound s → Sound (start_rule s).station

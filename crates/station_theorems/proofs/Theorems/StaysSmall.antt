@@ -6,10 +6,11 @@ use Prim.Native.Nat.{ℕ, ◌<◌}
 use native.Mathlib.Omega.{arith}
 use lib.Dec.{leb, ltb, eqb}
 use borrow.Author.Tests.{eqb-true}
+use Rattle.parts.proofs.Laws.Choose.{map_or_keeps}
 use Rattle.codec.specs.Order.{first_of}
 use Rattle.parts.specs.Choose.{pick}
 use Rattle.parts.specs.Live.{live_at}
-use Rattle.parts.specs.Frames.{number_of, next, failing_of, flight}
+use Rattle.parts.specs.Frames.{number_of, next, failing_of, flight, Dispatch}
 use Rattle.station.specs.Stations.{awaited_of, made, with_sends, quiet, sending, head, moved, unless, alone}
 use Rattle.sent.specs.Round.{bid_of, own_bid, forward, start_round}
 use Rattle.station.specs.Start.{started, start_rule}
@@ -23,19 +24,14 @@ use Rattle.station.specs.Take.{taking, take_rule}
 use Rattle.parts.specs.declared.list.Messages.{Messages}
 use Rattle.parts.specs.declared.list.Which.TheVariants.{AnyWaiting}
 use Rattle.parts.specs.declared.request.Request.{Request}
-use Rattle.parts.specs.declared.frame.Whom.{Whom}
-use Rattle.parts.specs.declared.frame.Whom.TheVariants.{Nobody, Member}
+use Rattle.std.specs.Prelude.{Option, None, Some}
 use Rattle.parts.specs.declared.frame.Frame.{Frame}
 use Rattle.parts.specs.declared.frame.Frame.TheVariants.{Token, Transmit, Information}
-use Rattle.parts.specs.declared.frame.Dispatch.{Dispatch}
-use Rattle.parts.specs.declared.frame.Dispatch.TheVariants.{Nothing, Sent}
 use Rattle.parts.specs.declared.moves.Event.{Event}
 use Rattle.parts.specs.declared.moves.State.{State}
 use Rattle.parts.specs.declared.moves.State.TheVariants.{Idle, Alone, Excluded}
 use Rattle.sent.specs.declared.round.Sight.{Sight}
 use Rattle.sent.specs.declared.round.Bid.{Bid}
-use Rattle.station.specs.declared.station.Handled.{Handled}
-use Rattle.station.specs.declared.station.Handled.TheVariants.{Last}
 use Rattle.station.specs.declared.station.Station.{Station}
 use Rattle.station.specs.declared.station.Answer.{Answer}
 use Rattle.parts.proofs.Laws.Tests.{each_none}
@@ -84,11 +80,9 @@ module _ (n limit : ℕ) where
   up_flight_small : (l : Loss) → SmallLoss l → SmallLoss (give_up_flight l)
   unfolding give_up_flight give_up_at
   up_flight_small l h =
-      pick_keeps SmallLoss (flight (awaited_of l.station)).on _ l
-      (pick_keeps SmallLoss (message_at l.station (flight (awaited_of l.station)).place).some _ l (leave_small l.station h _) h)
-      h
+      map_or_keeps SmallLoss _ (flight (awaited_of l.station)) l (λ p. map_or_keeps SmallLoss _ (message_at l.station p) l (λ m. leave_small l.station h p) h) h
 
-  told_small : (l : Loss) (w : Whom) → SmallLoss l → SmallStruck (told l w)
+  told_small : (l : Loss) (w : Option ℕ) → SmallLoss l → SmallStruck (told l w)
   told_small l w h =
       record {
         n_is = h.n_is;
@@ -104,10 +98,10 @@ module _ (n limit : ℕ) where
   quiet_small : (s : Station) (st : State) → Small n limit s → Small n limit (quiet s st)
   quiet_small s st h = record { n_is = h.n_is; limit_is = h.limit_is; sends = h.sends; receives = h.receives; awaited = tt; handled = h.handled; lost = h.lost; givenup = h.givenup }
 
-  sending_small : (s : Station) (j : Handled) (d : Dispatch) → Small n limit s → SmallHandled j → SmallDispatch d → Small n limit (sending s j d)
+  sending_small : (s : Station) (j : Option ℕ) (d : Dispatch) → Small n limit s → SmallHandled j → SmallDispatch d → Small n limit (sending s j d)
   sending_small s j d h a b = record { n_is = h.n_is; limit_is = h.limit_is; sends = h.sends; receives = h.receives; awaited = b; handled = a; lost = h.lost; givenup = h.givenup }
 
-  stopped_small : (l : Loss) (w : Whom) (st : State) → SmallLoss l → SmallStruck (stopped l w st)
+  stopped_small : (l : Loss) (w : Option ℕ) (st : State) → SmallLoss l → SmallStruck (stopped l w st)
   stopped_small l w st h = quiet_small _ st (told_small (give_up_flight l) w (up_flight_small l h))
 
   -- ---- a heard frame
@@ -116,20 +110,20 @@ module _ (n limit : ℕ) where
   unfolding acknowledge landed
   acknowledge_small s from k h =
       pick_keeps (Small n limit) (acknowledged s from k) _ s
-      (quiet_small _ Idle (pick_keeps (Small n limit) (flight (awaited_of s)).on _ s (leave_small s h _) h))
+      (quiet_small _ Idle (map_or_keeps (Small n limit) _ (flight (awaited_of s)) s (λ p. leave_small s h p) h))
       h
 
-  other_small : (s : Station) (p : ℕ) (w : Whom) → Small n limit s → SmallStruck (strike_other s p w)
+  other_small : (s : Station) (p : ℕ) (w : Option ℕ) → Small n limit s → SmallStruck (strike_other s p w)
   unfolding strike_other
   other_small s p w h =
       let l : Loss = give_up_to (strike s p) p in
       let h' = up_to_small (strike s p) p (live_small s h p) in
       pick_keeps SmallStruck (alone (strike s p)) _ _ (stopped_small l w Alone h') (told_small l w h')
 
-  failed_small : (s : Station) (w : Whom) → Small n limit s → SmallStruck (failed s w)
+  failed_small : (s : Station) (w : Option ℕ) → Small n limit s → SmallStruck (failed s w)
   unfolding failed strike_heard
-  failed_small s Nobody h = h
-  failed_small s (Member p) h =
+  failed_small s None h = h
+  failed_small s (Some p) h =
       pick_keeps SmallStruck (eqb p s.own) _ _ (stopped_small (nothing_gone (strike s p)) (newly s.live p) Excluded (live_small s h p))
       (other_small s p (newly s.live p) h)
 
@@ -147,7 +141,7 @@ module _ (n limit : ℕ) where
   respond_small k from to f h q =
       let t = stored_small k.station from f h q in
       pick_keeps (λ (x : Answer). Small n limit x.station) (nothing_more k.station to (number_of f)) _ _ h
-      (sending_small _ (Last (number_of f)) _ t q.number (reply_small _ (head_small _ t) f q))
+      (sending_small _ (Some (number_of f)) _ t q.number (reply_small _ (head_small _ t) f q))
 
   pub frame_small : (s : Station) (f : Frame) (from to : ℕ) → Small n limit s → SmallFrame f → Small n limit (frame_rule s f from to).station
   unfolding frame_rule heard
@@ -166,8 +160,8 @@ module _ (n limit : ℕ) where
 
       go : (a b : Bool)
           → SmallDispatch
-          (first_of (forward v (next t.number) t (Member to) (pick (eqb t.named to) (own_bid v) (bid_of t)))
-          ((a, start_round v (next t.number) (Member to)) ∷ (b, start_round v (next t.number) (Member to)) ∷ []))
+          (first_of (forward v (next t.number) t (Some to) (pick (eqb t.named to) (own_bid v) (bid_of t)))
+          ((a, start_round v (next t.number) (Some to)) ∷ (b, start_round v (next t.number) (Some to)) ∷ []))
       go true b = start_small v h (next t.number) (next_small t.number) _
       go false true = start_small v h (next t.number) (next_small t.number) _
       go false false = record { number = next_small t.number; priority = bid }
@@ -191,8 +185,8 @@ module _ (n limit : ℕ) where
 
   on_timer_small : (s : Station) (d : Dispatch) → Small n limit s → SmallDispatch d → Small n limit (on_timer s d).station
   unfolding on_timer
-  on_timer_small s Nothing h q = h
-  on_timer_small s (Sent f to) h q = silence_small s to f h q
+  on_timer_small s None h q = h
+  on_timer_small s (Some (f, to)) h q = silence_small s to f h q
 
   pub timer_small : (s : Station) → Small n limit s → Small n limit (timer_rule s).station
   unfolding timer_rule
@@ -205,7 +199,7 @@ module _ (n limit : ℕ) where
   start_keeps_small s h =
       moved_small s _ _ h
       (pick_keeps (λ (x : Answer). Small n limit x.station) (eqb s.own 0) _ _
-      (sending_small s _ _ h h.handled (start_small _ (head_small s h) 0 (omega arith) Nobody))
+      (sending_small s _ _ h h.handled (start_small _ (head_small s h) 0 (omega arith) None))
       (quiet_small s Idle h))
 
   pub queue_small : (s : Station) (q : Request) → Small n limit s → Small n limit (queue_rule s q).station

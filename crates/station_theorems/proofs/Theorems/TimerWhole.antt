@@ -7,7 +7,7 @@ use lib.Dec.{ltb}
 use borrow.Author.Tests.{ltb-true, eqb-false, not-true}
 use Rattle.parts.specs.Choose.{pick}
 use Rattle.parts.specs.Moves.{move_of, runs}
-use Rattle.parts.specs.Frames.{no_flight, flight, fit}
+use Rattle.parts.specs.Frames.{flight, fit, Dispatch}
 use Rattle.station.specs.Stations.{state_of, awaited_of, alone, quiet, more_turn, counted}
 use Rattle.station.specs.Sight.{sight}
 use Rattle.station.specs.Strike.{Loss, Struck, strike, give_up_to}
@@ -18,8 +18,7 @@ use Rattle.parts.specs.declared.moves.State.{State}
 use Rattle.parts.specs.declared.moves.State.TheVariants.{Idle}
 use Rattle.parts.specs.declared.moves.Event.TheVariants.{Heard}
 use Rattle.parts.specs.declared.frame.Frame.{Frame}
-use Rattle.parts.specs.declared.frame.Dispatch.{Dispatch}
-use Rattle.parts.specs.declared.frame.Dispatch.TheVariants.{Nothing, Sent}
+use Rattle.std.specs.Prelude.{None, Some}
 use Rattle.station.specs.declared.station.Station.{Station}
 use Rattle.station_theorems.specs.Shaped.{WholeStation}
 use Rattle.station_theorems.proofs.Laws.States.{waits}
@@ -49,7 +48,7 @@ again_sound s k h =
 
 -- a station between two turns, on the same ring
 record Settled (s t : Station) : Type 0 where
-  based : Based no_flight t
+  based : Based None t
   same_ring : t.n ≡ s.n
 
 settled : (s : Station) (p : ℕ) → (p ≡ s.own → ⊥) → Based (flight (awaited_of s)) s → Settled s (unanswered s p).station
@@ -58,8 +57,8 @@ settled s p o b =
     let l : Loss = give_up_to (strike s p) p in
     let c = struck_based s (flight (awaited_of s)) b p o refl in
     flight_cases (λ (m : Loss). Settled s (counted m.station m.gone.len)) l (flight (awaited_of s)) refl c.flown
-    (λ off. record { based = counted_based _ no_flight (still_based l.station (flight (awaited_of s)) c off) _; same_ring = refl })
-    (λ on g. record { based = counted_based _ no_flight (left_based l.station (flight (awaited_of s)) c on) _; same_ring = refl })
+    (λ off. record { based = counted_based _ None (still_based l.station (flight (awaited_of s)) c off) _; same_ring = refl })
+    (λ r on g. record { based = counted_based _ None (left_based l.station (flight (awaited_of s)) c r on) _; same_ring = refl })
 
 after_sound : (s : Station) (k : Struck) (to : ℕ) (f : Frame) → Settled s k.station → to < s.n → fit s.n f ≡ true → Sound (after_strike k to f).station
 unfolding after_strike pick
@@ -72,7 +71,7 @@ after_sound s k to f h low e = go (alone k.station) refl
         sends_off k.station h.based _ _ a
         (resend_proper (quiet k.station Idle) r.member h.based.sends a to f (rw h.same_ring low) (rw h.same_ring e))
 
-silence_sound : (s : Station) → move_of (state_of s) Heard ≡ runs → Sound s → (to : ℕ) (f : Frame) → awaited_good (state_of s) s.n s.own s.sends (Sent f to) ≡ true
+silence_sound : (s : Station) → move_of (state_of s) Heard ≡ runs → Sound s → (to : ℕ) (f : Frame) → awaited_good (state_of s) s.n s.own s.sends (Some (f, to)) ≡ true
     → Sound (silence s to f).station
 unfolding silence pick awaited_good
 silence_sound s m k to f e = go (ltb s.turn.retries s.limit) refl
@@ -87,8 +86,8 @@ silence_sound s m k to f e = go (ltb s.turn.retries s.limit) refl
 timer_on : (s : Station) → move_of (state_of s) Heard ≡ runs → Sound s → (d : Dispatch) → awaited_good (state_of s) s.n s.own s.sends d ≡ true
     → Sound (on_timer s d).station
 unfolding on_timer
-timer_on s m k Nothing e = k
-timer_on s m k (Sent f to) e = silence_sound s m k to f e
+timer_on s m k None e = k
+timer_on s m k (Some (f, to)) e = silence_sound s m k to f e
 
 timer_sound : (s : Station) → Sound s → Sound (timer_rule s).station
 unfolding timer_rule

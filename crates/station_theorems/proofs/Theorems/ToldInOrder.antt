@@ -14,8 +14,7 @@ use Rattle.station.specs.Heard.{acknowledged, checks, frame_rule}
 use Rattle.station.specs.Timer.{timer_rule}
 use Rattle.parts.specs.declared.moves.Event.TheVariants.{Heard}
 use Rattle.parts.specs.declared.list.Message.{Message}
-use Rattle.parts.specs.declared.frame.Whom.{Whom}
-use Rattle.parts.specs.declared.frame.Whom.TheVariants.{Nobody, Member}
+use Rattle.std.specs.Prelude.{Option, None, Some}
 use Rattle.parts.specs.declared.frame.Frame.{Frame}
 use Rattle.station.specs.declared.station.Station.{Station}
 use Rattle.station.specs.declared.station.Answer.{Answer}
@@ -47,62 +46,62 @@ pub frame_leaves : (s : Station) → SendsFit s → (f : Frame) (from to : ℕ) 
     → AnswerLeaves s (another_than s.own (failing_of f)) (stops s (failing_of f) && not (acknowledged s from (number_of f))) (acknowledged s from (number_of f)) (frame_rule s f from to)
 frame_leaves s fit f from to r c = rw (frame_runs s f from to r c) (heard_leaves s fit.places (few s fit) f from to)
 
-none_waits : (s : Station) → only (waits_to s Nobody) (all s.sends) ≡ []
-none_waits s = only_nothing (waits_to s Nobody) (λ m. refl) (all s.sends)
+none_waits : (s : Station) → only (waits_to s None) (all s.sends) ≡ []
+none_waits s = only_nothing (waits_to s None) (λ m. refl) (all s.sends)
 
-module _ (s : Station) (a : Answer) (w : Whom) (flew landed : Bool) (k : AnswerLeaves s w flew landed a) where
+module _ (s : Station) (a : Answer) (w : Option ℕ) (flew landed : Bool) (k : AnswerLeaves s w flew landed a) where
   abbrev ms : List Message
   ms = all s.sends
 
-  tells_both : (v : Whom) → w ≡ v → flew ≡ true → all a.gone ≡ only (waits_to s v) ms ++ in_flight s
+  tells_both : (v : Option ℕ) → w ≡ v → flew ≡ true → all a.gone ≡ only (waits_to s v) ms ++ in_flight s
   tells_both v e t =
       k.told
-      ∙ ap (λ (x : Whom). only (waits_to s x) ms ++ only (λ (m : Message). flew && flying s m) ms) e
+      ∙ ap (λ (x : Option ℕ). only (waits_to s x) ms ++ only (λ (m : Message). flew && flying s m) ms) e
       ∙ ap (λ (b : Bool). only (waits_to s v) ms ++ only (λ (m : Message). b && flying s m) ms) t
 
-  tells_waiting : (v : Whom) → w ≡ v → flew ≡ false → all a.gone ≡ only (waits_to s v) ms
+  tells_waiting : (v : Option ℕ) → w ≡ v → flew ≡ false → all a.gone ≡ only (waits_to s v) ms
   tells_waiting v e t =
       k.told
-      ∙ ap (λ (x : Whom). only (waits_to s x) ms ++ only (λ (m : Message). flew && flying s m) ms) e
+      ∙ ap (λ (x : Option ℕ). only (waits_to s x) ms ++ only (λ (m : Message). flew && flying s m) ms) e
       ∙ ap (λ (l : List Message). only (waits_to s v) ms ++ l) (only_nothing _ (λ m. ap (λ (b : Bool). b && flying s m) t) ms)
       ∙ append-nil (only (waits_to s v) ms)
 
-module _ (s : Station) (acked : Bool) (p : ℕ) (a : Answer) (k : AnswerLeaves s (another_than s.own (Member p)) (stops s (Member p) && not acked) acked a) where
-  acked_flew : acked ≡ true → (stops s (Member p) && not acked) ≡ false
-  acked_flew t = ap (λ (z : Bool). stops s (Member p) && not z) t ∙ and-false (stops s (Member p))
+module _ (s : Station) (acked : Bool) (p : ℕ) (a : Answer) (k : AnswerLeaves s (another_than s.own (Some p)) (stops s (Some p) && not acked) acked a) where
+  acked_flew : acked ≡ true → (stops s (Some p) && not acked) ≡ false
+  acked_flew t = ap (λ (z : Bool). stops s (Some p) && not z) t ∙ and-false (stops s (Some p))
 
-  another : (p ≡ s.own → ⊥) → another_than s.own (Member p) ≡ Member p
+  another : (p ≡ s.own → ⊥) → another_than s.own (Some p) ≡ Some p
   another o = pick_false _ _ (ne_eqb p s.own o)
 
-  not_another : p ≡ s.own → another_than s.own (Member p) ≡ Nobody
+  not_another : p ≡ s.own → another_than s.own (Some p) ≡ None
   not_another o = pick_true _ _ (eq-eqb p s.own o)
 
   frame_told : FrameTells s acked p a
   frame_told =
       record {
-        others_left = λ o l. tells_waiting s a _ _ _ k (Member p) (another o) (ap (λ (b : Bool). b && not acked) (pick_false _ _ (ne_eqb p s.own o) ∙ l));
+        others_left = λ o l. tells_waiting s a _ _ _ k (Some p) (another o) (ap (λ (b : Bool). b && not acked) (pick_false _ _ (ne_eqb p s.own o) ∙ l));
         nobody_left = λ o l n.
-            tells_both s a _ _ _ k (Member p) (another o)
+            tells_both s a _ _ _ k (Some p) (another o)
             (ap (λ (b : Bool). b && not acked) (pick_false _ _ (ne_eqb p s.own o) ∙ l) ∙ ap not n);
-        nobody_left_acknowledged = λ o t. tells_waiting s a _ _ _ k (Member p) (another o) (acked_flew t);
+        nobody_left_acknowledged = λ o t. tells_waiting s a _ _ _ k (Some p) (another o) (acked_flew t);
         itself = λ o n.
-            tells_both s a _ _ _ k Nobody (not_another o)
+            tells_both s a _ _ _ k None (not_another o)
             (ap (λ (b : Bool). b && not acked) (pick_true _ _ (eq-eqb p s.own o)) ∙ ap not n)
             ∙ ap (λ (l : List Message). l ++ in_flight s) (none_waits s);
-        itself_acknowledged = λ o t. tells_waiting s a _ _ _ k Nobody (not_another o) (acked_flew t) ∙ none_waits s;
+        itself_acknowledged = λ o t. tells_waiting s a _ _ _ k None (not_another o) (acked_flew t) ∙ none_waits s;
       }
 
 pub frame_tells : (s : Station) → SendsFit s → (f : Frame) (from to p : ℕ) → FailingHeard s f from to p
     → FrameTells s (acknowledged s from (number_of f)) p (frame_rule s f from to)
 frame_tells s fit f from to p h =
     frame_told s (acknowledged s from (number_of f)) p (frame_rule s f from to)
-    (subst (λ (w : Whom). AnswerLeaves s (another_than s.own w) (stops s w && not (acknowledged s from (number_of f))) (acknowledged s from (number_of f)) (frame_rule s f from to))
+    (subst (λ (w : Option ℕ). AnswerLeaves s (another_than s.own w) (stops s w && not (acknowledged s from (number_of f))) (acknowledged s from (number_of f)) (frame_rule s f from to))
     h.failing_is (frame_leaves s fit f from to h.hears h.passed))
 
 -- a frame without a failing station tells no message
-pub frame_tells_none : (s : Station) → SendsFit s → (f : Frame) (from to : ℕ) → move_of (state_of s) Heard ≡ runs → checks s from to ≡ 0 → failing_of f ≡ Nobody
+pub frame_tells_none : (s : Station) → SendsFit s → (f : Frame) (from to : ℕ) → move_of (state_of s) Heard ≡ runs → checks s from to ≡ 0 → failing_of f ≡ None
     → all (frame_rule s f from to).gone ≡ []
 frame_tells_none s fit f from to r c e =
     let k = frame_leaves s fit f from to r c in
-    tells_waiting s (frame_rule s f from to) _ _ _ k Nobody (ap (another_than s.own) e) (ap (λ (w : Whom). stops s w && not (acknowledged s from (number_of f))) e)
+    tells_waiting s (frame_rule s f from to) _ _ _ k None (ap (another_than s.own) e) (ap (λ (w : Option ℕ). stops s w && not (acknowledged s from (number_of f))) e)
     ∙ none_waits s

@@ -7,7 +7,7 @@ use Rattle.parts.specs.Choose.{pick, every}
 use Rattle.parts.specs.Moves.{is_excluded}
 use Rattle.parts.specs.Messages.{all, flies}
 use Rattle.parts.specs.Live.{live_at}
-use Rattle.parts.specs.Frames.{flight}
+use Rattle.parts.specs.Frames.{flight, Dispatch}
 use Rattle.station.specs.Stations.{state_of, awaited_of}
 use Rattle.wholeness.specs.Whole.{waits_well, waiters_good, whole}
 use Rattle.parts.specs.declared.moves.State.{State}
@@ -15,8 +15,7 @@ use Rattle.parts.specs.declared.moves.State.TheVariants.{Excluded}
 use Rattle.parts.specs.declared.live.Live.{Live}
 use Rattle.parts.specs.declared.list.Message.{Message}
 use Rattle.parts.specs.declared.frame.Frame.TheVariants.{Token, Transmit, Information}
-use Rattle.parts.specs.declared.frame.Dispatch.{Dispatch}
-use Rattle.parts.specs.declared.frame.Dispatch.TheVariants.{Nothing, Sent}
+use Rattle.std.specs.Prelude.{None, Some}
 use Rattle.station.specs.declared.station.Station.{Station}
 use Rattle.parts.proofs.Laws.Choose.{pick_true, pick_false}
 use Rattle.station_theorems.specs.Whole.{InFlight, Whole}
@@ -33,10 +32,10 @@ use Rattle.station_theorems.proofs.Theorems.Awaited.{awaited_is, is_awaited}
 -- ---- in flight, or waiting
 
 flying : (d : Dispatch) (m : Message) → flies (flight d) m ≡ true → InFlight d m
-flying Nothing m e = absurd (false≢true e)
-flying (Sent (Token t) to) m e = absurd (false≢true e)
-flying (Sent (Transmit t) to) m e = absurd (false≢true e)
-flying (Sent (Information i) to) m e =
+flying None m e = absurd (false≢true e)
+flying (Some (Token t, to)) m e = absurd (false≢true e)
+flying (Some (Transmit t, to)) m e = absurd (false≢true e)
+flying (Some (Information i, to)) m e =
     record { frame = i; to = to; its_place = eqb-true i.place m.place e; awaited = refl }
 
 flown : (d : Dispatch) (m : Message) → InFlight d m → flies (flight d) m ≡ true

@@ -4,17 +4,14 @@ use mathlib.Core.Path.{◌≡◌}
 use Prim.Native.Nat.{ℕ, ◌+◌, ◌*◌, ◌-◌, ◌<◌, ◌≤◌}
 use native.Mathlib.Omega.{arith}
 use Rattle.sent.specs.Round.{priority_of, information_of}
-use Rattle.parts.specs.Frames.{flight_in, no_flight}
-use Rattle.parts.specs.Messages.{the_best}
-use Rattle.parts.specs.declared.list.Best.{Best}
+use Rattle.parts.specs.Frames.{flight_in, Dispatch}
 use Rattle.parts.specs.declared.list.Message.{Message}
 use Rattle.parts.specs.declared.frame.TokenFrame.{TokenFrame}
 use Rattle.parts.specs.declared.frame.TransmitFrame.{TransmitFrame}
 use Rattle.parts.specs.declared.frame.InformationFrame.{InformationFrame}
 use Rattle.parts.specs.declared.frame.Frame.{Frame}
 use Rattle.parts.specs.declared.frame.Frame.TheVariants.{Token, Transmit, Information}
-use Rattle.parts.specs.declared.frame.Dispatch.{Dispatch}
-use Rattle.parts.specs.declared.frame.Dispatch.TheVariants.{Sent}
+use Rattle.std.specs.Prelude.{Option, None, Some}
 use Rattle.bench.specs.Rows.{kind_of}
 use Rattle.bench_theorems.specs.Quiet.{offset, Phase, token, transmit, information}
 use Rattle.waiting.specs.Waiting.{is_short, is_information}
@@ -22,10 +19,10 @@ use Rattle.waiting.specs.Waiting.{is_short, is_information}
 -- ---- a message on top
 
 -- the message m is the head of the station s, and the head of every other station is of a strictly lower priority
-pub record Tops (n : ℕ) (heads : ℕ → Best) (s : ℕ) (m : Message) : Type 0 where
+pub record Tops (n : ℕ) (heads : ℕ → Option Message) (s : ℕ) (m : Message) : Type 0 where
   pub member : s < n
   pub some_priority : 1 ≤ m.priority
-  pub own_head : heads s ≡ the_best m
+  pub own_head : heads s ≡ Some m
   pub lower : (p : ℕ) → p < n → (p ≡ s → ⊥) → priority_of (heads p) < m.priority
 
 -- ---- the rank
@@ -63,6 +60,6 @@ some_ahead {n} {from} s priority (information i) =
 -- the station at p composes d: the message's own frame; or another, which lowers the rank by that frame
 pub data Turns (n s : ℕ) (m : Message) (p short information : ℕ) (d : Dispatch) : Type 0 where
   its_own : (number : ℕ) → p ≡ s → d ≡ information_of number m → Turns n s m p short information d
-  another : (f : Frame) (onward : ℕ) → d ≡ Sent f onward → (p ≡ s → flight_in f ≡ no_flight) → (short' information' : ℕ)
+  another : (f : Frame) (onward : ℕ) → d ≡ Some (f, onward) → (p ≡ s → flight_in f ≡ None) → (short' information' : ℕ)
       → Ahead n s m.priority p f short' information' → is_short (kind_of f) + short' ≤ short → is_information (kind_of f) + information' ≤ information
       → Turns n s m p short information d

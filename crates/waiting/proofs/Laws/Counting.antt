@@ -9,7 +9,7 @@ use borrow.Author.Tests.{leb-true}
 use Rattle.parts.specs.Frames.{fit}
 use Rattle.parts.specs.declared.frame.Frame.{Frame}
 use Rattle.parts.specs.declared.frame.Frame.TheVariants.{Token, Transmit, Information}
-use Rattle.parts.specs.declared.frame.Dispatch.TheVariants.{Sent}
+use Rattle.std.specs.Prelude.{Some}
 use Rattle.station_theorems.proofs.Laws.Sending.{passes}
 use Rattle.bench.specs.Rows.{kind_of, octets_of, row_of, row_on}
 use Rattle.bench.specs.declared.rows.Row.{Row}
@@ -46,7 +46,7 @@ unfolding shorts informations octets_on_wire
 counts_none short info = record { few_short = omega arith; few_information = omega arith; octets = omega arith; all_counted = refl }
 
 pub counts_more : (n from : ℕ) (f : Frame) (to : ℕ) → fit n f ≡ true → (rows : List Row) (short info short' info' : ℕ)
-    → is_short (kind_of f) + short' ≤ short → is_information (kind_of f) + info' ≤ info → Counts rows short' info' → Counts (row_on from (Sent f to) ++ rows) short info
+    → is_short (kind_of f) + short' ≤ short → is_information (kind_of f) + info' ≤ info → Counts rows short' info' → Counts (row_on from (Some (f, to)) ++ rows) short info
 unfolding shorts informations octets_on_wire row_on row_of
 counts_more n from f to e rows short info short' info' a b c =
     record {

@@ -1,7 +1,7 @@
 -- A queue call only adds to a station's list: a message that waits waits on, and an accepted message waits from its acceptance on. Assumes
 -- nothing.
 use mathlib.Core.Path.{◌≡◌, refl, sym, ap, subst, ◌∙◌}
-use mathlib.Core.Bool.{Bool, true, false, ◌&&◌, and-false, false≢true}
+use mathlib.Core.Bool.{Bool, true, false, false≢true}
 use mathlib.Core.List.Memᴰ
 use mathlib.Core.List.{[], ◌∷◌, ◌++◌, Memᴰ}
 use native.Mathlib.Omega.{arith}
@@ -16,7 +16,7 @@ use Rattle.parts.specs.Moves.{move_of, runs}
 use Rattle.station.specs.Stations.{state_of, awaited_of, answered, moved, unless}
 use Rattle.station.specs.Queue.{new_message, accepted, queue_number, queue_rule}
 use Rattle.parts.specs.declared.moves.Event.TheVariants.{Queue}
-use Rattle.parts.specs.declared.list.Flight.{Flight}
+use Rattle.std.specs.Prelude.{Option, ℕ, None, Some}
 use Rattle.parts.specs.declared.list.Message.{Message}
 use Rattle.parts.specs.declared.request.Request.{Request}
 use Rattle.station.specs.declared.station.Station.{Station}
@@ -57,23 +57,23 @@ module _ (s : Station) (whole : WholeStation s) (q : Request) where
   -- the new one's place is free, so it is not the place of the one in flight
   not_flying : queue_number s q ≡ 0 → flies (flight (awaited_of s)) new ≡ false
   unfolding best
-  not_flying z = go f.on refl (eqb f.place new.place) refl
+  not_flying z = go (flight (awaited_of s)) refl
     where
-      f : Flight
-      f = flight (awaited_of s)
-
       free : has_place (all s.sends) (lowest_free (all s.sends)) ≡ false
       free =
           let g = queue_good s.n s.own (live_at s.live q.to) s.sends.len q z in
           (free_place (all s.sends) (omega (arith, length-take s.sends.len s.sends.items, g.room))).1
 
-      go : (a : Bool) → f.on ≡ a → (b : Bool) → eqb f.place new.place ≡ b → flies f new ≡ false
-      go false x b y = ap (λ (t : Bool). t && eqb f.place new.place) x
-      go true x false y = ap (λ (t : Bool). f.on && t) y ∙ and-false f.on
-      go true x true y =
-          let had : has_place (all s.sends) f.place ≡ true =
-          best_somewhere f.place (all s.sends) (in_flight_lem (state_of s) s.n s.own s.sends (awaited_of s) (whole_sound s whole).awaited x) in
-          absurd (false≢true (sym free ∙ ap (has_place (all s.sends)) (sym (eqb-true f.place new.place y)) ∙ had))
+      apart : (p : ℕ) → flight (awaited_of s) ≡ Some p → (b : Bool) → eqb p new.place ≡ b → eqb p new.place ≡ false
+      apart p x false y = y
+      apart p x true y =
+          let had : has_place (all s.sends) p ≡ true =
+          best_somewhere p (all s.sends) (in_flight_lem (state_of s) s.n s.own s.sends (awaited_of s) (whole_sound s whole).awaited p x) in
+          absurd (false≢true (sym free ∙ ap (has_place (all s.sends)) (sym (eqb-true p new.place y)) ∙ had))
+
+      go : (f : Option ℕ) → flight (awaited_of s) ≡ f → flies f new ≡ false
+      go None x = refl
+      go (Some p) x = apart p x (eqb p new.place) refl
 
   pub new_waits : move_of (state_of s) Queue ≡ runs → (queue_rule s q).number ≡ 0 → WaitsAt (queue_rule s q).station new
   unfolding queue_rule moved unless accepted pick

@@ -5,18 +5,17 @@ use mathlib.Core.List.{List, [], ◌∷◌, ◌++◌}
 use Prim.Native.Nat.{ℕ}
 use lib.Dec.{eqb}
 use borrow.Author.Tests.{eqb-true, eq-eqb}
-use Rattle.parts.specs.Frames.{flight_in, no_flight}
+use Rattle.parts.specs.Frames.{flight_in}
 use Rattle.sent.specs.Round.{information_of}
-use Rattle.parts.specs.declared.list.Flight.{Flight}
 use Rattle.parts.specs.declared.list.Message.{Message}
 use Rattle.parts.specs.declared.frame.Frame.{Frame}
-use Rattle.parts.specs.declared.frame.Dispatch.TheVariants.{Sent}
+use Rattle.std.specs.Prelude.{Option, None, Some}
 use Rattle.parts.proofs.Laws.Choose.{pick_true, pick_false}
 use Rattle.bench.specs.Delivery.{step}
 use Rattle.bench.specs.Rows.{rows_on}
 use Rattle.bench.specs.Runs.{Event, stepped}
 use Rattle.bench.specs.declared.ring.Bench.{Bench}
-use Rattle.waiting.specs.Waiting.{Spot, own, before, goes}
+use Rattle.waiting.specs.Waiting.{Spot, own, before, goes, is_at}
 
 -- ---- whose the frame on the wire is
 
@@ -25,12 +24,12 @@ unfolding own
 own_sent x m number e = rw (eq-eqb x.station x.station refl, eq-eqb m.place x.place e)
 
 -- a frame from another station, or one that is not information, is not its own
-pub own_not : (x : Spot) (p : ℕ) (f : Frame) (to : ℕ) → (p ≡ x.station → flight_in f ≡ no_flight) → own x (record { from = p; sent = Sent f to }) ≡ false
+pub own_not : (x : Spot) (p : ℕ) (f : Frame) (to : ℕ) → (p ≡ x.station → flight_in f ≡ None) → own x (record { from = p; sent = Some (f, to) }) ≡ false
 unfolding own
 own_not x p f to w = go (eqb p x.station) refl
   where
-    go : (t : Bool) → eqb p x.station ≡ t → (t && ((flight_in f).on && eqb (flight_in f).place x.place)) ≡ false
-    go true e = ap (λ (l : Flight). l.on && eqb l.place x.place) (w (eqb-true p x.station e))
+    go : (t : Bool) → eqb p x.station ≡ t → (t && is_at (flight_in f) x.place) ≡ false
+    go true e = ap (λ (l : Option ℕ). is_at l x.place) (w (eqb-true p x.station e))
     go false e = refl
 
 -- ---- a step that composes it, and one that does not

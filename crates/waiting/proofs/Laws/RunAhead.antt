@@ -16,13 +16,13 @@ use Rattle.parts.specs.declared.frame.TransmitFrame.{TransmitFrame}
 use Rattle.parts.specs.declared.frame.InformationFrame.{InformationFrame}
 use Rattle.parts.specs.declared.frame.Frame.{Frame}
 use Rattle.parts.specs.declared.frame.Frame.TheVariants.{Token, Transmit, Information}
-use Rattle.parts.specs.declared.frame.Dispatch.TheVariants.{Sent}
+use Rattle.std.specs.Prelude.{Some, Option, None}
 use Rattle.bench.specs.Ring.{station_at}
 use Rattle.bench.specs.Delivery.{step}
 use Rattle.bench.specs.Runs.{Event, stepped, stepping}
 use Rattle.bench.specs.declared.ring.Bench.{Bench}
 use Rattle.bench_theorems.proofs.Laws.Answering.{view}
-use Rattle.waiting.specs.Waiting.{Spot, own, OnTop}
+use Rattle.waiting.specs.Waiting.{Spot, own, OnTop, is_at}
 use Rattle.waiting.proofs.Laws.RunWaiting.{resting, waiting, top, resting_listed}
 use Rattle.waiting.proofs.Laws.RunState.{wire_of, Runs, wire_step, runs_step, runs_on}
 use Rattle.waiting.proofs.Laws.RunCounts.{Weighs, Counts, counts_own, counts_more}
@@ -31,7 +31,7 @@ use Rattle.waiting.proofs.Laws.RunCounts.{Weighs, Counts, counts_own, counts_mor
 
 pub record Short (g : Frame) : Type 0 where
   pub weighs : Weighs g 1 0
-  pub carries_none : (flight_in g).on ≡ false
+  pub carries_none : flight_in g ≡ None
 
 pub token_short : (t : TokenFrame) → Short (Token t)
 token_short t = record { weighs = record { short = refl; information = refl; octets = refl; one = refl }; carries_none = refl }
@@ -45,21 +45,21 @@ longest_weighs i e = record { short = refl; information = refl; octets = omega (
 -- ---- whose frame it is
 
 module _ (x : Spot) (from : ℕ) (f : Frame) (to : ℕ) where
-  own_short : (flight_in f).on ≡ false → own x (wire_of from (Sent f to)) ≡ false
+  own_short : flight_in f ≡ None → own x (wire_of from (Some (f, to))) ≡ false
   unfolding own
   own_short e = go (eqb from x.station)
     where
-      go : (t : Bool) → t && ((flight_in f).on && eqb (flight_in f).place x.place) ≡ false
-      go true = ap (λ (u : Bool). u && eqb (flight_in f).place x.place) e
+      go : (t : Bool) → t && is_at (flight_in f) x.place ≡ false
+      go true = ap (λ (l : Option ℕ). is_at l x.place) e
       go false = refl
 
-  own_other : (from ≡ x.station → ⊥) → own x (wire_of from (Sent f to)) ≡ false
+  own_other : (from ≡ x.station → ⊥) → own x (wire_of from (Some (f, to))) ≡ false
   unfolding own
-  own_other o = ap (λ (u : Bool). u && ((flight_in f).on && eqb (flight_in f).place x.place)) (ne_eqb from x.station o)
+  own_other o = ap (λ (u : Bool). u && is_at (flight_in f) x.place) (ne_eqb from x.station o)
 
-  own_its : from ≡ x.station → (flight_in f).on ≡ true → (flight_in f).place ≡ x.place → own x (wire_of from (Sent f to)) ≡ true
+  own_its : from ≡ x.station → flight_in f ≡ Some x.place → own x (wire_of from (Some (f, to))) ≡ true
   unfolding own
-  own_its a b c = rw (eq-eqb from x.station a, b) (eq-eqb (flight_in f).place x.place c)
+  own_its a b = rw (eq-eqb from x.station a, b) (eq-eqb x.place x.place refl)
 
 -- ---- the run
 
@@ -80,7 +80,7 @@ module _ (x : Spot) (priority : ℕ) where
         below p inside m (subst (Memᴰ m) (r.loads p inside) (resting_listed (flight (awaited_of (station_at b p))) m (all (station_at b p).sends) w.rests w.listed)) other
 
     -- one frame that is not its own, and what follows
-    one_more : {s i : ℕ} (g : Frame) (q u v s' i' : ℕ) → (step b).wire ≡ wire_of to (Sent g q) → own x (wire_of to (Sent g q)) ≡ false → Weighs g u v
+    one_more : {s i : ℕ} (g : Frame) (q u v s' i' : ℕ) → (step b).wire ≡ wire_of to (Some (g, q)) → own x (wire_of to (Some (g, q))) ≡ false → Weighs g u v
         → u + s ≡ s' → v + i ≡ i' → Ahead (step b) s i → Ahead b s' i'
     unfolding stepping
     one_more {s} {i} g q u v s' i' wire other w d e rest =
@@ -92,14 +92,14 @@ module _ (x : Spot) (priority : ℕ) where
         (counts_more x priority b on_top (stepping (s + i + 1)) to g q u v wire (ap (own x) wire ∙ other) w rest)))
 
     -- the reply is a short frame
-    pub ahead_short : {s i : ℕ} (g : Frame) (q : ℕ) → reply (view n to (top (load to))) f ≡ Sent g q → Short g
+    pub ahead_short : {s i : ℕ} (g : Frame) (q : ℕ) → reply (view n to (top (load to))) f ≡ Some (g, q) → Short g
         → (Runs n load to g q (step b) → Ahead (step b) s i) → Ahead b (s + 1) i
     ahead_short {s} {i} g q e t rest =
         one_more g q 1 0 (s + 1) i (wire_step r ∙ ap (wire_of to) e) (own_short x to g q t.carries_none) t.weighs (omega arith) (omega arith)
         (rest (runs_on r g q t.carries_none e))
 
     -- the reply is an information frame from elsewhere
-    pub ahead_information : {s i : ℕ} (later : ℕ → List Message) (g : Frame) (q : ℕ) → reply (view n to (top (load to))) f ≡ Sent g q → Weighs g 0 1
+    pub ahead_information : {s i : ℕ} (later : ℕ → List Message) (g : Frame) (q : ℕ) → reply (view n to (top (load to))) f ≡ Some (g, q) → Weighs g 0 1
         → (to ≡ x.station → ⊥) → later to ≡ resting (flight_in g) (load to) → ((p : ℕ) → p < n → (p ≡ to → ⊥) → later p ≡ load p)
         → (Runs n later to g q (step b) → Ahead (step b) s i) → Ahead b s (i + 1)
     ahead_information {s} {i} later g q e t other here there rest =
@@ -107,8 +107,8 @@ module _ (x : Spot) (priority : ℕ) where
         (rest (runs_step r later g q e here there))
 
     -- the reply is its own frame
-    pub ahead_own : (g : Frame) (q : ℕ) → reply (view n to (top (load to))) f ≡ Sent g q → to ≡ x.station → (flight_in g).on ≡ true → (flight_in g).place ≡ x.place
+    pub ahead_own : (g : Frame) (q : ℕ) → reply (view n to (top (load to))) f ≡ Some (g, q) → to ≡ x.station → flight_in g ≡ Some x.place
         → Ahead b 0 0
     unfolding stepping
-    ahead_own g q e its on place =
-        counts_own x priority b on_top (stepping 0) (ap (own x) (wire_step r ∙ ap (wire_of to) e) ∙ own_its x to g q its on place)
+    ahead_own g q e its on =
+        counts_own x priority b on_top (stepping 0) (ap (own x) (wire_step r ∙ ap (wire_of to) e) ∙ own_its x to g q its on)

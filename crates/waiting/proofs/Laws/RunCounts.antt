@@ -6,7 +6,7 @@ use Prim.Native.Nat.{ℕ, ◌+◌, ◌*◌}
 use native.Mathlib.Omega.{arith}
 use lib.ListN.{length}
 use Rattle.parts.specs.declared.frame.Frame.{Frame}
-use Rattle.parts.specs.declared.frame.Dispatch.TheVariants.{Sent}
+use Rattle.std.specs.Prelude.{Some}
 use Rattle.parts.proofs.Laws.Choose.{pick_true, pick_false}
 use Rattle.bench.specs.Delivery.{step}
 use Rattle.bench.specs.Rows.{kind_of, octets_of, row_of, row_on, rows_on}
@@ -67,7 +67,7 @@ module _ (x : Spot) (priority : ℕ) (b : Bench) (on_top : OnTop x priority b) (
       }
 
   -- the next frame is another
-  pub counts_more : {s i : ℕ} (from : ℕ) (f : Frame) (to u v : ℕ) → (step b).wire ≡ wire_of from (Sent f to) → own x (step b).wire ≡ false → Weighs f u v
+  pub counts_more : {s i : ℕ} (from : ℕ) (f : Frame) (to u v : ℕ) → (step b).wire ≡ wire_of from (Some (f, to)) → own x (step b).wire ≡ false → Weighs f u v
       → Counts x priority (step b) es s i → Counts x priority b (stepped ∷ es) (u + s) (v + i)
   unfolding StaysOnTop goes before row_on
   counts_more {s} {i} from f to u v wire e w c =

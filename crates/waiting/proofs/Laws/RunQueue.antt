@@ -1,12 +1,13 @@
 -- A queue call at a member with an empty send list: it is accepted, and the message is the only one that waits there. Assumes nothing.
 use mathlib.Core.Path.{◌≡◌, refl, sym, ap, ◌∙◌}
-use mathlib.Core.Bool.{Bool, true, false, not}
+use mathlib.Core.Bool.{Bool, true, not}
 use mathlib.Core.List.{[], ◌∷◌}
 use Prim.Native.Nat.{ℕ, ◌<◌, ◌≤◌}
 use native.Mathlib.Omega.{arith}
 use lib.Dec.{ltb, leb, eqb}
 use lib.Seq.{get_or-set_same, get_or-set_other}
 use borrow.Author.Tests.{lt-leb, le-ltb, ne_eqb}
+use Rattle.std.specs.Prelude.{None}
 use Rattle.codec.proofs.Laws.Order.{first_passed}
 use Rattle.parts.specs.Choose.{pick}
 use Rattle.parts.specs.Moves.{move_of, runs}
@@ -38,7 +39,7 @@ pub record Unused (n limit p : ℕ) (s : Station) : Type 0 where
   pub member : Member n limit p s
   pub takes_part : move_of (state_of s) Queue ≡ runs
   pub empty : s.sends ≡ none
-  pub none_flies : (flight (awaited_of s)).on ≡ false
+  pub none_flies : flight (awaited_of s) ≡ None
 
 pub unused_waits : {n limit p : ℕ} {s : Station} → Unused n limit p s → waiting s ≡ []
 unfolding waiting

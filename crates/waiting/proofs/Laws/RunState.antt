@@ -7,13 +7,13 @@ use Prim.Native.Nat.{ℕ, ◌<◌}
 use native.Mathlib.Omega.{arith}
 use lib.Dec.{eqb}
 use borrow.Author.Tests.{eqb-true, eqb-false}
-use Rattle.parts.specs.Frames.{flight, flight_in}
+use Rattle.parts.specs.Frames.{flight, flight_in, Dispatch}
 use Rattle.station.specs.Stations.{head}
 use Rattle.sent.specs.Round.{reply}
 use Rattle.parts.specs.declared.list.Message.{Message}
 use Rattle.parts.specs.declared.frame.Frame.{Frame}
-use Rattle.parts.specs.declared.frame.Dispatch.{Dispatch}
-use Rattle.parts.specs.declared.frame.Dispatch.TheVariants.{Sent}
+use Rattle.std.specs.Prelude.{Some, None}
+use Rattle.parts.proofs.Laws.Frames.{same_frame, same_to}
 use Rattle.bench.specs.Ring.{station_at}
 use Rattle.bench.specs.Delivery.{deliver_to, step}
 use Rattle.bench.specs.declared.ring.Wire.{Wire}
@@ -32,21 +32,15 @@ pub record Runs (n : ℕ) (load : ℕ → List Message) (from : ℕ) (f : Frame)
   pub limit : ℕ
   pub quiet : Quiet limit b
   pub same_n : b.n ≡ n
-  pub wire : b.wire ≡ wire_of from (Sent f to)
+  pub wire : b.wire ≡ wire_of from (Some (f, to))
   pub loads : (p : ℕ) → p < n → waiting (station_at b p) ≡ load p
-
-same_frame : {f g : Frame} {p q : ℕ} → Sent f p ≡ Sent g q → f ≡ g
-same_frame e = cc
-
-same_to : {f g : Frame} {p q : ℕ} → Sent f p ≡ Sent g q → p ≡ q
-same_to e = cc
 
 step_n : {limit : ℕ} (b : Bench) → Quiet limit b → (step b).n ≡ b.n
 unfolding deliver_to
 step_n b q = ap (λ (c : Bench). c.n) (step_delivers b q)
 
 module _ {n : ℕ} {load : ℕ → List Message} {from : ℕ} {f : Frame} {to : ℕ} {b : Bench} (r : Runs n load from f to b) where
-  on_wire : Sent r.quiet.frame r.quiet.to ≡ Sent f to
+  on_wire : ◌≡◌ {A = Dispatch} (Some (r.quiet.frame, r.quiet.to)) (Some (f, to))
   on_wire = sym r.quiet.on_wire ∙ ap (λ (w : Wire). w.sent) r.wire
 
   frame_is : r.quiet.frame ≡ f
@@ -69,7 +63,7 @@ module _ {n : ℕ} {load : ℕ → List Message} {from : ℕ} {f : Frame} {to : 
       ∙ (λ i. wire_of (to_is i) (reply (view (r.same_n i) (to_is i) (head_is i)) (frame_is i)))
 
   -- it goes on the wire; at its sender the message that it carries waits no more
-  pub runs_step : (later : ℕ → List Message) (g : Frame) (q : ℕ) → reply (view n to (top (load to))) f ≡ Sent g q
+  pub runs_step : (later : ℕ → List Message) (g : Frame) (q : ℕ) → reply (view n to (top (load to))) f ≡ Some (g, q)
       → later to ≡ resting (flight_in g) (load to) → ((p : ℕ) → p < n → (p ≡ to → ⊥) → later p ≡ load p)
       → Runs n later to g q (step b)
   runs_step later g q e here there =
@@ -81,7 +75,7 @@ module _ {n : ℕ} {load : ℕ → List Message} {from : ℕ} {f : Frame} {to : 
         loads = λ p h. go p h (eqb p to) refl;
       }
     where
-      now_wire : (step b).wire ≡ wire_of to (Sent g q)
+      now_wire : (step b).wire ≡ wire_of to (Some (g, q))
       now_wire = wire_step ∙ ap (wire_of to) e
 
       go : (p : ℕ) → p < n → (t : Bool) → eqb p to ≡ t → waiting (station_at (step b) p) ≡ later p
@@ -98,5 +92,5 @@ module _ {n : ℕ} {load : ℕ → List Message} {from : ℕ} {f : Frame} {to : 
           others_wait b r.quiet p (omega (arith, r.same_n)) (λ z. y (z ∙ to_is)) ∙ r.loads p h ∙ sym (there p h y)
 
   -- a reply that carries none changes nobody's
-  pub runs_on : (g : Frame) (q : ℕ) → (flight_in g).on ≡ false → reply (view n to (top (load to))) f ≡ Sent g q → Runs n load to g q (step b)
+  pub runs_on : (g : Frame) (q : ℕ) → flight_in g ≡ None → reply (view n to (top (load to))) f ≡ Some (g, q) → Runs n load to g q (step b)
   runs_on g q z e = runs_step load g q e (sym (resting_all (flight_in g) z (load to))) (λ p h o. refl)

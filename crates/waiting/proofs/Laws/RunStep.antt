@@ -2,14 +2,13 @@
 use mathlib.Core.Path.{◌≡◌, refl, sym, ap, subst, ◌∙◌}
 use Prim.Native.Nat.{ℕ, ◌<◌}
 use Rattle.parts.specs.Messages.{all}
-use Rattle.parts.specs.Frames.{number_of, flight, no_flight}
+use Rattle.parts.specs.Frames.{number_of, flight, Dispatch}
+use Rattle.std.specs.Prelude.{None}
 use Rattle.station.specs.Stations.{awaited_of}
 use Rattle.station.specs.Sight.{sight}
 use Rattle.sent.specs.Round.{reply}
 use Rattle.station.specs.Heard.{acknowledge, stored, frame_rule}
-use Rattle.parts.specs.declared.list.Flight.{Flight}
 use Rattle.parts.specs.declared.frame.Frame.{Frame}
-use Rattle.parts.specs.declared.frame.Dispatch.{Dispatch}
 use Rattle.station.specs.declared.station.Station.{Station}
 use Rattle.station.specs.declared.station.Answer.{Answer}
 use Rattle.bench.specs.Ring.{station_at}
@@ -26,9 +25,9 @@ use Rattle.waiting.proofs.Laws.RunWaiting.{resting, waiting, resting_all, acknow
 -- ---- one station
 
 -- with none in flight all of the list wait
-all_waits : (s : Station) → flight (awaited_of s) ≡ no_flight → all s.sends ≡ waiting s
+all_waits : (s : Station) → flight (awaited_of s) ≡ None → all s.sends ≡ waiting s
 unfolding waiting
-all_waits s e = sym (resting_all (flight (awaited_of s)) (ap (λ (f : Flight). f.on) e) (all s.sends))
+all_waits s e = sym (resting_all (flight (awaited_of s)) e (all s.sends))
 
 module _ {n limit : ℕ} {at : ℕ → Station} {from : ℕ} {f : Frame} {to : ℕ} (w : Picture n limit at from f to) where
   silent_waits : (p : ℕ) → p < n → (p ≡ from → ⊥) → (p ≡ to → ⊥) → waiting (frame_rule (at p) f from to).station ≡ waiting (at p)

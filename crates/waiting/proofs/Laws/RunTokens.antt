@@ -9,10 +9,9 @@ use Rattle.parts.specs.Live.{after}
 use Rattle.parts.specs.Frames.{next}
 use Rattle.sent.specs.Round.{priority_of, opening, granting}
 use Rattle.parts.specs.declared.list.Message.{Message}
-use Rattle.parts.specs.declared.frame.Whom.TheVariants.{Nobody}
+use Rattle.std.specs.Prelude.{None, Some}
 use Rattle.parts.specs.declared.frame.TokenFrame.{TokenFrame}
 use Rattle.parts.specs.declared.frame.Frame.TheVariants.{Token, Transmit}
-use Rattle.parts.specs.declared.frame.Dispatch.TheVariants.{Sent}
 use Rattle.parts.proofs.Laws.Live.{after_inside}
 use Rattle.bench.specs.Delivery.{step}
 use Rattle.bench.specs.declared.ring.Bench.{Bench}
@@ -70,7 +69,7 @@ module _ (x : Spot) (priority : ℕ) (n : ℕ) (most : n ≤ 64) (load : ℕ →
 
       -- the token of the round, and as q replaces it
       abbrev opened : ℕ → TokenFrame
-      opened j = opening m 0 j Nobody
+      opened j = opening m 0 j None
 
       abbrev bettered : ℕ → ℕ → TokenFrame
       bettered j bid = bidding (opened j) j (record { priority = bid; named = q })
@@ -86,10 +85,10 @@ module _ (x : Spot) (priority : ℕ) (n : ℕ) (most : n ≤ 64) (load : ℕ →
           let is : priority_of (top (load q)) ≡ z.priority = one_priority (load q) z one in
           ahead_short x priority (subst (λ (p : ℕ). Runs n load (m + (n - 2)) (Token (opened j)) p c) to-q r) below (Token (bettered (next j) z.priority)) m
           (replaces n most q (top (load q)) (opened j) master master (λ e. after_another n q two member (to-m ∙ e)) (omega arith)
-          ∙ (λ i. Sent (Token (bettered (next j) (is i))) (to-m i)))
+          ∙ (λ i. Some (Token (bettered (next j) (is i)), to-m i)))
           (token_short (bettered (next j) z.priority)) (granted (next j) (step c))
 
-      pub round : (number : ℕ) (b : Bench) → Runs n load m (Token (opening m 0 number Nobody)) (after n m) b → Ahead x priority b (s + n) i
+      pub round : (number : ℕ) (b : Bench) → Runs n load m (Token (opening m 0 number None)) (after n m) b → Ahead x priority b (s + n) i
       round number b r =
           counted (s + 1 + 1 + (n - 2)) (s + n) (omega arith)
           (passed (opened 0) master master m (m + (n - 2)) inside (λ p a e. (λ y. omega arith, nothing p a e)) replaced (n - 2) m number b (omega arith) refl r)

@@ -6,8 +6,8 @@ use mathlib.Core.List.{List, [], ◌∷◌, ◌++◌}
 use Prim.Native.Nat.{ℕ, ◌+◌, ◌<◌}
 use native.Mathlib.Omega.{arith}
 use Rattle.parts.specs.declared.list.Message.{Message}
-use Rattle.parts.specs.declared.frame.Dispatch.{Dispatch}
-use Rattle.parts.specs.declared.frame.Dispatch.TheVariants.{Sent}
+use Rattle.parts.specs.Frames.{Dispatch}
+use Rattle.std.specs.Prelude.{Some}
 use Rattle.parts.specs.declared.request.Request.{Request}
 use Rattle.bench.specs.Delivery.{step}
 use Rattle.bench.specs.Calls.{queue}
@@ -84,7 +84,7 @@ module _ (n : ℕ) (x : Spot) (m : Message) where
       → Runs x b (stepped ∷ es) short info
   unfolding steps_in
   continues b es short info w r =
-      let rows_are : before x b (stepped ∷ es) ≡ row_on (step b).wire.from (Sent w.rank.frame w.rank.to) ++ before x (step b) es =
+      let rows_are : before x b (stepped ∷ es) ≡ row_on (step b).wire.from (Some (w.rank.frame, w.rank.to)) ++ before x (step b) es =
       before_another x b es w.not_own ∙ ap (λ (d : Dispatch). row_on (step b).wire.from d ++ before x (step b) es) w.rank.on_wire in
       record {
         counts =

@@ -6,16 +6,15 @@ use mathlib.Core.List.Memᴰ
 use mathlib.Core.List.{Memᴰ}
 use mathlib.Core.Logic.{◌⊎◌, inl, inr}
 use Prim.Native.Nat.{ℕ, ◌<◌}
-use Rattle.parts.specs.Frames.{flight, flight_in, no_flight}
+use Rattle.parts.specs.Frames.{flight, flight_in, Dispatch}
+use Rattle.std.specs.Prelude.{Option, None}
 use Rattle.parts.specs.Messages.{all, none, flies}
 use Rattle.parts.specs.Moves.{is_waiting}
 use Rattle.station.specs.Stations.{state_of, awaited_of}
 use Rattle.station.specs.Heard.{frame_rule}
-use Rattle.parts.specs.declared.list.Flight.{Flight}
 use Rattle.parts.specs.declared.list.Message.{Message}
 use Rattle.parts.specs.declared.list.Messages.{Messages}
 use Rattle.parts.specs.declared.frame.Frame.{Frame}
-use Rattle.parts.specs.declared.frame.Dispatch.{Dispatch}
 use Rattle.station.specs.declared.station.Station.{Station}
 use Rattle.station.specs.declared.station.Answer.{Answer}
 use Rattle.station_theorems.specs.Leaves.{flying}
@@ -61,7 +60,7 @@ heard_keeps s whole f from to g m w = go ((frame_leaves_only s (whole_fits s who
 -- ---- a step
 
 module _ {limit : ℕ} (b : Bench) (q : Quiet limit b) (p : ℕ) (member : p < b.n) (m : Message) (w : Waits b p m)
-    (not_sent : q.to ≡ p → flight_in (reply_in b q).frame ≡ no_flight)
+    (not_sent : q.to ≡ p → flight_in (reply_in b q).frame ≡ None)
   where
     whole : WholeStation (station_at b p)
     whole = (q.picture.members p member).whole
@@ -77,7 +76,7 @@ module _ {limit : ℕ} (b : Bench) (q : Quiet limit b) (p : ℕ) (member : p < b
           rests =
               ap (λ (d : Dispatch). flies (flight d) m)
               (ap (λ (i : ℕ). awaited_of (frame_rule (station_at b i) q.frame b.wire.from q.to).station) e ∙ a.awaited ∙ new_sent q.picture)
-              ∙ ap (λ (f : Flight). flies f m) (not_sent (sym e));
+              ∙ ap (λ (f : Option ℕ). flies f m) (not_sent (sym e));
         }
 
     -- everybody else has sent nothing
@@ -88,7 +87,7 @@ module _ {limit : ℕ} (b : Bench) (q : Quiet limit b) (p : ℕ) (member : p < b
         record {
           listed = heard_keeps (station_at b p) whole q.frame b.wire.from q.to a.none_gone m (waits_there b p m w);
           rests =
-              ap (λ (f : Flight). flies f m)
+              ap (λ (f : Option ℕ). flies f m)
               (idle_flight (state_of t) t.n t.own t.sends (awaited_of t) (ap is_waiting a.at_rest) (whole_sound t a.member.whole).awaited);
         }
 

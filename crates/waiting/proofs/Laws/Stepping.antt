@@ -3,13 +3,13 @@
 use mathlib.Core.Path.{◌≡◌, sym, ap, subst, ◌∙◌}
 use mathlib.Core.Bool.{true, false}
 use Prim.Native.Nat.{ℕ, ◌+◌, ◌<◌, ◌≤◌}
-use Rattle.parts.specs.Frames.{flight_in, fit}
+use Rattle.parts.specs.Frames.{flight_in, fit, Dispatch}
 use Rattle.sent.specs.Round.{information_of, reply}
 use Rattle.station.specs.Stations.{head}
 use Rattle.parts.specs.declared.list.Message.{Message}
 use Rattle.parts.specs.declared.frame.Frame.{Frame}
-use Rattle.parts.specs.declared.frame.Dispatch.{Dispatch}
-use Rattle.parts.specs.declared.frame.Dispatch.TheVariants.{Sent}
+use Rattle.std.specs.Prelude.{Some}
+use Rattle.parts.proofs.Laws.Frames.{same_frame}
 use Rattle.bench.specs.Ring.{station_at}
 use Rattle.bench.specs.Delivery.{deliver_to, step}
 use Rattle.bench.specs.Rows.{kind_of}
@@ -40,7 +40,7 @@ pub record Holds (n : ℕ) (x : Spot) (m : Message) (b : Bench) : Type 0 where
 pub record AheadOn (n s priority : ℕ) (w : Wire) (short info : ℕ) : Type 0 where
   pub frame : Frame
   pub to : ℕ
-  pub on_wire : w.sent ≡ Sent frame to
+  pub on_wire : w.sent ≡ Some (frame, to)
   pub ahead : Ahead n s priority w.from frame short info
 
 -- ---- a step
@@ -81,9 +81,7 @@ module _ (n : ℕ) (x : Spot) (m : Message) (b : Bench) (h : Holds n x m b) (top
 
     ahead_there : Ahead b.n x.station m.priority b.wire.from q.frame short info
     ahead_there =
-        let same : Sent a.frame a.to ≡ Sent q.frame q.to = sym a.on_wire ∙ q.on_wire in
-        let same_frame : a.frame ≡ q.frame = cc in
-        subst (λ (f : Frame). Ahead b.n x.station m.priority b.wire.from f short info) same_frame
+        subst (λ (f : Frame). Ahead b.n x.station m.priority b.wire.from f short info) (same_frame (sym a.on_wire ∙ q.on_wire))
         (subst (λ (i : ℕ). Ahead i x.station m.priority b.wire.from a.frame short info) (sym h.size) a.ahead)
 
     -- what the addressee composes
@@ -106,9 +104,8 @@ module _ (n : ℕ) (x : Spot) (m : Message) (b : Bench) (h : Holds n x m b) (top
             new_wire _ r ∙ ap (λ (p : ℕ). let w : Wire = record { from = p; sent = information_of number m } in w) e in
             goes_now (record { number = number; is_sent = is; is_own = ap (own x) is ∙ own_sent x m number h.place })
         go (another f onward r none short' info' ah less-short less-information) =
-            let is : (step b).wire ≡ record { from = q.to; sent = Sent f onward } = new_wire _ r in
-            let same : Sent (reply_in b q).frame (reply_in b q).to ≡ Sent f onward = sym (reply_in b q).sent ∙ r in
-            let same_frame : (reply_in b q).frame ≡ f = cc in
+            let is : (step b).wire ≡ record { from = q.to; sent = Some (f, onward) } = new_wire _ r in
+            let same : (reply_in b q).frame ≡ f = same_frame (sym (reply_in b q).sent ∙ r) in
             waits_on
             (record {
               not_own = ap (own x) is ∙ own_not x q.to f onward none;
@@ -119,7 +116,7 @@ module _ (n : ℕ) (x : Spot) (m : Message) (b : Bench) (h : Holds n x m b) (top
                     size = step_n b q ∙ h.size;
                     member = h.member;
                     place = h.place;
-                    waits = waits_step b q x.station inside m h.waits (λ e. ap flight_in same_frame ∙ none e);
+                    waits = waits_step b q x.station inside m h.waits (λ e. ap flight_in same ∙ none e);
                   };
               short' = short';
               info' = info';
@@ -132,7 +129,7 @@ module _ (n : ℕ) (x : Spot) (m : Message) (b : Bench) (h : Holds n x m b) (top
                         subst (λ (p : ℕ). Ahead n x.station m.priority p f short' info') (sym (ap (λ (w : Wire). w.from) is))
                         (subst (λ (i : ℕ). Ahead i x.station m.priority q.to f short' info') h.size ah);
                   };
-              fits = subst (λ (i : ℕ). fit i f ≡ true) h.size (subst (λ (g : Frame). fit b.n g ≡ true) same_frame (step_picture b q).fits);
+              fits = subst (λ (i : ℕ). fit i f ≡ true) h.size (subst (λ (g : Frame). fit b.n g ≡ true) same (step_picture b q).fits);
               fewer_short = less-short;
               fewer_information = less-information;
             })

@@ -1,7 +1,6 @@
 -- The run that reaches the bound, from the first frame on: a round of master 0 in which the last station is granted, its information,
 -- and a round of master 1 in which station 0 is granted. Assumes nothing.
 use mathlib.Core.Path.{◌≡◌, refl, sym, ap, ◌∙◌}
-use mathlib.Core.Bool.{true}
 use mathlib.Core.List.Memᴰ
 use mathlib.Core.List.{List, [], ◌∷◌}
 use Prim.Native.Nat.{ℕ, ◌+◌, ◌-◌, ◌≤◌}
@@ -10,11 +9,9 @@ use Rattle.parts.specs.Live.{after}
 use Rattle.parts.specs.Frames.{next}
 use Rattle.sent.specs.Round.{priority_of, opening, carrying, granting, information_of, reply}
 use Rattle.parts.specs.declared.list.Message.{Message}
-use Rattle.parts.specs.declared.list.Best.{Best}
-use Rattle.parts.specs.declared.frame.Whom.TheVariants.{Nobody}
+use Rattle.std.specs.Prelude.{None, Some}
 use Rattle.parts.specs.declared.frame.TransmitFrame.{TransmitFrame}
 use Rattle.parts.specs.declared.frame.Frame.TheVariants.{Token, Transmit, Information}
-use Rattle.parts.specs.declared.frame.Dispatch.TheVariants.{Sent}
 use Rattle.parts.proofs.Laws.Live.{after_inside, after_last}
 use Rattle.bench.specs.Delivery.{step}
 use Rattle.bench.specs.declared.ring.Bench.{Bench}
@@ -29,8 +26,8 @@ use Rattle.waiting.proofs.Laws.TightLoad.{its, foreign, spot, load, load_first, 
 -- told to send, a station with one message sends it
 sends_one : (n p : ℕ) (t : TransmitFrame) (ms : List Message) (z : Message) → ms ≡ z ∷ [] → reply (view n p (top ms)) (Transmit t) ≡ information_of (next t.number) z
 sends_one n p t ms z e =
-    let best : top ms ≡ record { some = true; message = z } = ap top e ∙ top_one z in
-    sends_head n p (top ms) t (ap (λ (b : Best). b.some) best) ∙ ap (λ (b : Best). information_of (next t.number) b.message) best
+    let best : top ms ≡ Some z = ap top e ∙ top_one z in
+    sends_head n p (top ms) z t best
 
 module _ (n : ℕ) (three : 3 ≤ n) (most : n ≤ 64) where
   both_below : Below spot 9 n (load n (foreign ∷ []))
@@ -43,10 +40,10 @@ module _ (n : ℕ) (three : 3 ≤ n) (most : n ≤ 64) where
   -- granted, station 0 sends it
   goes_now : (j : ℕ) (c : Bench) → Runs n (load n []) 1 (Transmit (granting j 9 1 0)) 0 c → Ahead spot 9 c 0 0
   goes_now j c r =
-      ahead_own spot 9 r alone_below (Information (carrying (next j) its)) 1 (sends_one n 0 (granting j 9 1 0) (load n [] 0) its (load_first n [])) refl refl refl
+      ahead_own spot 9 r alone_below (Information (carrying (next j) its)) 1 (sends_one n 0 (granting j 9 1 0) (load n [] 0) its (load_first n [])) refl refl
 
   -- the round of master 1
-  second_round : (k : ℕ) (b : Bench) → Runs n (load n []) 1 (Token (opening 1 0 k Nobody)) (after n 1) b → Ahead spot 9 b (0 + n) 0
+  second_round : (k : ℕ) (b : Bench) → Runs n (load n []) 1 (Token (opening 1 0 k None)) (after n 1) b → Ahead spot 9 b (0 + n) 0
   second_round =
       round spot 9 n most (load n []) alone_below (omega arith) 1 0 (omega arith) (after_last n (1 + (n - 2)) (omega arith)) (after_inside n 0 (omega arith))
       (λ p a e. load_none n p (omega arith) (λ z. omega arith)) its (load_first n []) (omega arith) goes_now
@@ -55,9 +52,9 @@ module _ (n : ℕ) (three : 3 ≤ n) (most : n ≤ 64) where
   starts_second : (k : ℕ) (b : Bench) → Runs n (load n []) (n - 1) (Information (carrying k foreign)) 1 b → Ahead spot 9 b (0 + n + 1) 0
   starts_second k b r =
       let none : priority_of (top (load n [] 1)) ≡ 0 = none_priority (load n [] 1) (load_none n 1 (omega arith) (λ z. omega arith)) in
-      ahead_short spot 9 r alone_below (Token (opening 1 0 (next k) Nobody)) (after n 1)
-      (starts_round n 1 (top (load n [] 1)) (carrying k foreign) ∙ (λ i. Sent (Token (opening 1 (none i) (next k) Nobody)) (after n 1)))
-      (token_short (opening 1 0 (next k) Nobody)) (second_round (next k) (step b))
+      ahead_short spot 9 r alone_below (Token (opening 1 0 (next k) None)) (after n 1)
+      (starts_round n 1 (top (load n [] 1)) (carrying k foreign) ∙ (λ i. Some (Token (opening 1 (none i) (next k) None), after n 1)))
+      (token_short (opening 1 0 (next k) None)) (second_round (next k) (step b))
 
   -- granted, the last station sends the foreign one
   sends_foreign : (j : ℕ) (c : Bench) → Runs n (load n (foreign ∷ [])) 0 (Transmit (granting j 5 0 (n - 1))) (n - 1) c → Ahead spot 9 c (0 + n + 1) (0 + 1)
@@ -65,11 +62,11 @@ module _ (n : ℕ) (three : 3 ≤ n) (most : n ≤ 64) where
       let one : load n (foreign ∷ []) (n - 1) ≡ foreign ∷ [] = load_last n (foreign ∷ []) (omega arith) in
       ahead_information spot 9 r both_below (load n []) (Information (carrying (next j) foreign)) 1
       (sends_one n (n - 1) (granting j 5 0 (n - 1)) (load n (foreign ∷ []) (n - 1)) foreign one) (longest_weighs (carrying (next j) foreign) refl) (λ e. omega arith)
-      (load_last n [] (omega arith) ∙ sym (ap (resting (record { on = true; place = 0 })) one ∙ resting_flies _ foreign [] refl ∙ resting_none _))
+      (load_last n [] (omega arith) ∙ sym (ap (resting (Some 0)) one ∙ resting_flies _ foreign [] refl ∙ resting_none _))
       (λ p h o. load_same n [] (foreign ∷ []) p o) (starts_second (next j) (step c))
 
   -- the round of master 0
-  pub whole_run : (b : Bench) → Runs n (load n (foreign ∷ [])) 0 (Token (opening 0 0 0 Nobody)) (after n 0) b → Ahead spot 9 b (0 + n + 1 + n) (0 + 1)
+  pub whole_run : (b : Bench) → Runs n (load n (foreign ∷ [])) 0 (Token (opening 0 0 0 None)) (after n 0) b → Ahead spot 9 b (0 + n + 1 + n) (0 + 1)
   whole_run =
       round spot 9 n most (load n (foreign ∷ [])) both_below (omega arith) 0 (n - 1) (omega arith)
       (after_inside n (0 + (n - 2)) (omega arith) ∙ omega arith) (after_last n (n - 1) (omega arith))

@@ -18,7 +18,7 @@ use Rattle.sent.specs.Round.{start_round}
 use Rattle.station.specs.Start.{sent_first, started, start_rule}
 use Rattle.parts.specs.declared.moves.State.TheVariants.{Idle}
 use Rattle.parts.specs.declared.moves.Event.TheVariants.{Start}
-use Rattle.parts.specs.declared.frame.Whom.TheVariants.{Nobody}
+use Rattle.std.specs.Prelude.{None}
 use Rattle.station.specs.declared.station.Station.{Station}
 use Rattle.station.specs.declared.station.Answer.{Answer}
 use Rattle.bench.specs.Ring.{station_at, ring_with}
@@ -43,7 +43,7 @@ use Rattle.waiting.proofs.Laws.TightLoad.{foreign, load, load_first, load_last, 
 -- a start leaves the send list as it was, and nothing flies
 pub record Starts (s t : Station) : Type 0 where
   pub same_sends : t.sends ≡ s.sends
-  pub none_flies : (flight (awaited_of s)).on ≡ false → (flight (awaited_of t)).on ≡ false
+  pub none_flies : flight (awaited_of s) ≡ None → flight (awaited_of t) ≡ None
 
 starts : (s : Station) → Starts s (start_rule s).station
 unfolding start_rule moved started start_round pick
@@ -51,7 +51,7 @@ starts s = go (eqb (move_of (state_of s) Start) runs) (eqb s.own 0)
   where
     go : (t u : Bool)
         → Starts s
-        (pick {A = Answer} t (pick u (sent_first s (start_round (sight s) 0 Nobody)) (answered (quiet s Idle) 0)) (answered s (move_of (state_of s) Start))).station
+        (pick {A = Answer} t (pick u (sent_first s (start_round (sight s) 0 None)) (answered (quiet s Idle) 0)) (answered s (move_of (state_of s) Start))).station
     go true true = record { same_sends = refl; none_flies = λ e. refl }
     go true false = record { same_sends = refl; none_flies = λ e. refl }
     go false u = record { same_sends = refl; none_flies = λ e. e }

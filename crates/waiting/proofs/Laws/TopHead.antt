@@ -8,14 +8,13 @@ use Prim.Native.Nat.{ℕ, ◌<◌, ◌≤◌}
 use native.Mathlib.Omega.{arith}
 use lib.Dec.{eqb}
 use borrow.Author.Tests.{eqb-true, eqb-false, not-true}
-use Rattle.parts.specs.Choose.{pick}
+use Rattle.std.proofs.lemmas.Option.{same_Some}
 use Rattle.parts.specs.Frames.{flight}
-use Rattle.parts.specs.Messages.{all, flies, fits, no_best, the_best, best_of}
+use Rattle.parts.specs.Messages.{all, flies, fits, best_of}
+use Rattle.std.specs.Prelude.{Option, None, Some}
 use Rattle.sent.specs.Round.{priority_of}
 use Rattle.station.specs.Stations.{awaited_of, head}
 use Rattle.wholeness.specs.Whole.{apart, message_good}
-use Rattle.parts.specs.declared.list.Best.{Best}
-use Rattle.parts.specs.declared.list.Flight.{Flight}
 use Rattle.parts.specs.declared.list.Message.{Message}
 use Rattle.parts.specs.declared.list.Which.{Which}
 use Rattle.parts.specs.declared.list.Which.TheVariants.{AnyWaiting, HasPlace}
@@ -41,8 +40,8 @@ pub one_place : (ms : List Message) → apart [] ms ≡ true → (x y : Message)
 one_place ms a x y h i e =
     let u = stood h in
     let v = stood i in
-    ap (λ (b : Best). b.message)
-    (sym (best_found ms u.0 u.1 x a u.2) ∙ ap (λ (p : ℕ). best_of (HasPlace p) ms no_best) e ∙ best_found ms v.0 v.1 y a v.2)
+    same_Some _ _
+    (sym (best_found ms u.0 u.1 x a u.2) ∙ ap (λ (p : ℕ). best_of (HasPlace p) ms None) e ∙ best_found ms v.0 v.1 y a v.2)
 
 none_higher : (w : Which) (ms : List Message) (m : Message) → First w ms m → (x : Message) → Memᴰ x ms → fits w x ≡ true → x.priority ≤ m.priority
 none_higher w ms m f x h t = go (Memᴰ.append_cases f.before (subst (Memᴰ x) f.stands h))
@@ -57,28 +56,25 @@ none_higher w ms m f x h t = go (Memᴰ.append_cases f.before (subst (Memᴰ x) 
 
 -- ---- a station
 
-waiting_fits : (f : Flight) (m : Message) → flies f m ≡ false → fits (AnyWaiting f) m ≡ true
+waiting_fits : (f : Option ℕ) (m : Message) → flies f m ≡ false → fits (AnyWaiting f) m ≡ true
 unfolding fits
 waiting_fits f m e = ap not e
 
-fits_waiting : (f : Flight) (m : Message) → fits (AnyWaiting f) m ≡ true → flies f m ≡ false
+fits_waiting : (f : Option ℕ) (m : Message) → fits (AnyWaiting f) m ≡ true → flies f m ≡ false
 unfolding fits
 fits_waiting f m e = not-true _ e
 
 -- its head, if it has one, is a message that waits
-pub head_waits : (b : Bench) (p : ℕ) → (head (station_at b p)).some ≡ true → Waits b p (head (station_at b p)).message
-head_waits b p e =
+pub head_waits : (b : Bench) (p : ℕ) (h : Message) → head (station_at b p) ≡ Some h → Waits b p h
+head_waits b p h e =
     let s : Station = station_at b p in
-    let f = (head_is_first s).first e in
-    record {
-      listed = standing f.before f.behind (head s).message (all s.sends) f.stands;
-      rests = fits_waiting (flight (awaited_of s)) (head s).message f.fitting;
-    }
+    let f = (head_is_first s).first h e in
+    record { listed = standing f.before f.behind h (all s.sends) f.stands; rests = fits_waiting (flight (awaited_of s)) h f.fitting }
 
 -- and it has one where a message waits, that is at least as high
 pub waiting_head : (b : Bench) (p : ℕ) (m : Message) → Waits b p m
-    → ((head (station_at b p)).some ≡ true) × (m.priority ≤ (head (station_at b p)).message.priority)
-waiting_head b p m w = go (head s).some refl
+    → (h : Message) × (head (station_at b p) ≡ Some h) × (m.priority ≤ h.priority)
+waiting_head b p m w = go (head s) refl
   where
     s : Station
     s = station_at b p
@@ -86,9 +82,9 @@ waiting_head b p m w = go (head s).some refl
     suits : fits (AnyWaiting (flight (awaited_of s))) m ≡ true
     suits = waiting_fits (flight (awaited_of s)) m w.rests
 
-    go : (t : Bool) → (head s).some ≡ t → ((head s).some ≡ true) × (m.priority ≤ (head s).message.priority)
-    go true e = (e, none_higher (AnyWaiting (flight (awaited_of s))) (all s.sends) (head s).message ((head_is_first s).first e) m w.listed suits)
-    go false e = absurd (false≢true (sym ((head_is_first s).none_fits e m w.listed) ∙ suits))
+    go : (o : Option Message) → head s ≡ o → (h : Message) × (head s ≡ Some h) × (m.priority ≤ h.priority)
+    go (Some h) e = (h, e, none_higher (AnyWaiting (flight (awaited_of s))) (all s.sends) h ((head_is_first s).first h e) m w.listed suits)
+    go None e = absurd (false≢true (sym ((head_is_first s).none_fits e m w.listed) ∙ suits))
 
 -- a whole station's messages have a priority
 pub listed_priority : (s : Station) → WholeStation s → (m : Message) → Memᴰ m (all s.sends) → 1 ≤ m.priority
@@ -104,36 +100,35 @@ module _ {limit : ℕ} (b : Bench) (q : Quiet limit b) (x : Spot) (m : Message) 
   some : 1 ≤ m.priority
   some = listed_priority (station_at b x.station) (q.picture.members x.station member).whole m w.listed
 
-  own_is : head (station_at b x.station) ≡ the_best m
+  own_is : head (station_at b x.station) ≡ Some m
   own_is = go (eqb h.place x.place) refl
     where
       s : Station
       s = station_at b x.station
 
       h : Message
-      h = (head s).message
+      h = (waiting_head b x.station m w).0
 
-      has : (head s).some ≡ true
-      has = (waiting_head b x.station m w).0
+      has : head s ≡ Some h
+      has = (waiting_head b x.station m w).1
 
-      go : (t : Bool) → eqb h.place x.place ≡ t → head s ≡ the_best m
+      go : (t : Bool) → eqb h.place x.place ≡ t → head s ≡ Some m
       go true e =
           let k = whole_sound s (q.picture.members x.station member).whole in
           let same : h ≡ m =
-          one_place (all s.sends) (list_apart s.n s.own s.sends k.sends) h m (head_waits b x.station has).listed w.listed
+          one_place (all s.sends) (list_apart s.n s.own s.sends k.sends) h m (head_waits b x.station h has).listed w.listed
           (eqb-true h.place x.place e ∙ sym at) in
-          λ i. record { some = has i; message = same i }
+          has ∙ ap (λ (y : Message). Some y) same
       go false e =
-          let less : h.priority < m.priority = top x.station member h (head_waits b x.station has) (λ y. eqb-false h.place x.place e y.1) in
-          absurd (omega (arith, (waiting_head b x.station m w).1))
+          let less : h.priority < m.priority = top x.station member h (head_waits b x.station h has) (λ y. eqb-false h.place x.place e y.1) in
+          absurd (omega (arith, (waiting_head b x.station m w).2))
 
   lower_is : (p : ℕ) → p < b.n → (p ≡ x.station → ⊥) → priority_of (head (station_at b p)) < m.priority
-  unfolding pick
-  lower_is p h o = go (head (station_at b p)).some refl
+  lower_is p h o = go (head (station_at b p)) refl
     where
-      go : (t : Bool) → (head (station_at b p)).some ≡ t → pick (head (station_at b p)).some (head (station_at b p)).message.priority 0 < m.priority
-      go true e = rw e (top p h (head (station_at b p)).message (head_waits b p e) (λ y. o y.0))
-      go false e = rw e (omega (arith, some))
+      go : (t : Option Message) → head (station_at b p) ≡ t → priority_of t < m.priority
+      go (Some k) e = top p h k (head_waits b p k e) (λ y. o y.0)
+      go None e = omega (arith, some)
 
   pub tops : Tops b.n (λ (p : ℕ). head (station_at b p)) x.station m
   tops = record { member = member; some_priority = some; own_head = own_is; lower = lower_is }

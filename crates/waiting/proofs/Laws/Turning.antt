@@ -10,7 +10,7 @@ use Rattle.parts.specs.Choose.{pick}
 use Rattle.parts.specs.Live.{after}
 use Rattle.parts.specs.Frames.{next, fit}
 use Rattle.sent.specs.Round.{priority_of, passing, returned, bid_of, own_bid, cleared, raised, forward, pass_on, on_token, reply}
-use Rattle.parts.specs.declared.list.Best.{Best}
+use Rattle.std.specs.Prelude.{Option}
 use Rattle.parts.specs.declared.list.Message.{Message}
 use Rattle.parts.specs.declared.frame.TokenFrame.{TokenFrame}
 use Rattle.parts.specs.declared.frame.TransmitFrame.{TransmitFrame}
@@ -30,7 +30,7 @@ use Rattle.waiting.proofs.Laws.Ahead.{Tops, Ahead, named, to_ask, passed_over, g
 use Rattle.waiting.proofs.Laws.Rounds.{round_turns, send_turns, grant_turns}
 
 -- the message m is on top at s; the station at p is addressed
-module _ (n : ℕ) (most : n ≤ 64) (heads : ℕ → Best) (s : ℕ) (m : Message) (t : Tops n heads s m) (p : ℕ) (place : p < n) where
+module _ (n : ℕ) (most : n ≤ 64) (heads : ℕ → Option Message) (s : ℕ) (m : Message) (t : Tops n heads s m) (p : ℕ) (place : p < n) where
   -- ---- a token from the station before, with its bid
 
   module _ (from : ℕ) (sender : from < n) (k : TokenFrame) (master_member : k.master < n) (name-member : k.named < n) (at : p ≡ after n from) where

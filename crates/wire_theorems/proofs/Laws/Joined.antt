@@ -1,36 +1,37 @@
 -- Which message's payload a call moves: one that joins a list, in a place that no other has, or one that is taken from it. Assumes nothing.
 use mathlib.Core.Path.{◌≡◌, refl, sym, ap, subst, ◌∙◌}
-use mathlib.Core.Bool.{not}
+use mathlib.Core.Bool.{Bool, false, false≢true}
 use mathlib.Core.List.{List, [], ◌∷◌, ◌++◌, Memᴰ}
 use Prim.Native.Nat.{ℕ, ◌<◌, ◌≤◌}
 use native.Mathlib.Omega.{arith}
-use borrow.Author.Tests.{leb-false, eqb-true, ltb-false, not-false}
+use borrow.Author.Tests.{leb-false, eqb-true, ltb-false}
 use lib.Dec.{leb, ltb, eqb}
 use lib.ListN.{length, length-take}
+use Rattle.std.proofs.lemmas.Option.{same_Some}
+use Rattle.std.specs.Option.{option_map_or, unwrap_or}
+use Rattle.parts.proofs.Laws.Choose.{map_or_keeps}
 use Rattle.codec.proofs.Laws.Order.{none_holds}
 use Rattle.packet_codec.specs.Packet.{information_length, read_packet}
 use Rattle.packet_codec.specs.declared.packet.Packet.{Packet}
 use Rattle.packet_codec.specs.declared.packet.Packet.TheVariants.{Token as TokenOf, Transmit as TransmitOf, Information as InformationOf}
 use Rattle.packet_codec.specs.declared.reading.Read.{Read}
 use Rattle.packet_codec.specs.declared.reading.Read.TheVariants.{Refused, Good}
-use Rattle.parts.specs.Messages.{all, pushed, lowest_free}
+use Rattle.parts.specs.Messages.{all, pushed, lowest_free, blank}
 use Rattle.parts.specs.Live.{live_at}
 use Rattle.parts.specs.Frames.{number_of, failing_of, flight}
 use Rattle.parts.specs.declared.list.Message.{Message}
 use Rattle.parts.specs.declared.list.Messages.{Messages}
 use Rattle.parts.specs.declared.list.Which.TheVariants.{OnChannel}
 use Rattle.parts.specs.declared.request.Request.{Request}
-use Rattle.parts.specs.declared.frame.Whom.{Whom}
-use Rattle.parts.specs.declared.frame.Whom.TheVariants.{Nobody, Member}
+use Rattle.std.specs.Prelude.{Option, None, Some, is_none}
 use Rattle.parts.specs.Refusals.{take_refusal}
 use Rattle.parts.proofs.Laws.Queue.{queue_good}
 use Rattle.station.specs.Stations.{awaited_of, answered, moved, unless, alone}
-use Rattle.station.specs.Strike.{Loss, Struck, strike, give_up_to, give_up_at, give_up_flight, message_at, nothing_gone}
+use Rattle.station.specs.Strike.{Loss, Struck, strike, give_up_to, give_up_at, give_up_flight, message_at, nothing_gone, leave}
 use Rattle.station.specs.Heard.{Stored, acknowledged, landed, acknowledge, strike_other, strike_heard, failed, receive, stored, handle, respond, heard, frame_rule}
 use Rattle.station.specs.Queue.{queue_number, new_message, accepted, queue_rule}
 use Rattle.station.specs.Take.{best_on, taking, take_rule}
 use Rattle.station.specs.declared.station.Station.{Station}
-use Rattle.station.specs.declared.station.Payload.TheVariants.{NoPayload, Of}
 use Rattle.station.specs.declared.station.Answer.{Answer}
 use Rattle.station_theorems.proofs.Laws.Kept.{push_all}
 use Rattle.station_theorems.proofs.Laws.Members.{standing}
@@ -41,7 +42,7 @@ use Rattle.station_theorems.proofs.Theorems.Head.{best_is_first}
 use Rattle.driver_buffers.specs.Packets.{frame_of}
 use Rattle.driver_calls.specs.Calls.{heard_then, packet_rule}
 
-no_payload : {m : Message} → NoPayload ≡ Of m → ⊥
+no_payload : {m : Message} → None ≡ Some m → ⊥
 no_payload e = let z : ◌≡◌ {A = ℕ} 0 1 = cc in omega arith
 
 -- ---- a list that a message joins
@@ -70,9 +71,9 @@ pub record Queues (s : Station) (q : Request) (m : Message) (a : Answer) : Type 
   pub length_fits : q.length ≤ 1492
 
 abbrev QueuesAll : Station → Request → Answer → Type 0
-QueuesAll s q a = (m : Message) → a.payload ≡ Of m → Queues s q m a
+QueuesAll s q a = (m : Message) → a.payload ≡ Some m → Queues s q m a
 
-pub queue_joins : (s : Station) (q : Request) → length s.sends.items ≡ 16 → (m : Message) → (queue_rule s q).payload ≡ Of m → Queues s q m (queue_rule s q)
+pub queue_joins : (s : Station) (q : Request) → length s.sends.items ≡ 16 → (m : Message) → (queue_rule s q).payload ≡ Some m → Queues s q m (queue_rule s q)
 unfolding queue_rule moved unless accepted
 queue_joins s q array =
     let none : (n : ℕ) → QueuesAll s q (answered s n) = λ n m e. absurd (no_payload e) in
@@ -93,15 +94,23 @@ pub record Takes (s : Station) (room : ℕ) (m : Message) : Type 0 where
   pub room_fits : m.length ≤ room
 
 abbrev TakesAll : Station → ℕ → Answer → Type 0
-TakesAll s room a = (m : Message) → a.payload ≡ Of m → Takes s room m
+TakesAll s room a = (m : Message) → a.payload ≡ Some m → Takes s room m
 
-taken_good : (s : Station) (channel room : ℕ) → take_refusal channel (best_on s channel) room ≡ 0 → Takes s room (best_on s channel).message
+taken_good : (s : Station) (channel room : ℕ) → take_refusal channel (best_on s channel) room ≡ 0 → Takes s room (unwrap_or (best_on s channel) blank)
 unfolding take_refusal
 taken_good s channel room e =
-    let t = none_holds 0 ((ltb 7 channel, 17) ∷ (not (best_on s channel).some, 20) ∷ (ltb room (best_on s channel).message.length, 21) ∷ [])
+    let t = none_holds 0 ((ltb 7 channel, 17) ∷ (is_none (best_on s channel), 20) ∷ (too_long (best_on s channel), 21) ∷ [])
     ((λ z. omega arith), ((λ z. omega arith), ((λ z. omega arith), tt))) e in
-    let f = (best_is_first (OnChannel channel) s.receives).first (not-false _ t.1.0) in
-    record { stood = standing f.before f.behind _ (all s.receives) f.stands; room_fits = ltb-false _ _ t.1.1.0 }
+    go (best_on s channel) refl t.1.0 t.1.1.0
+  where
+    too_long : Option Message → Bool
+    too_long b = option_map_or (λ (m : Message). ltb room m.length) b false
+
+    go : (b : Option Message) → best_on s channel ≡ b → is_none b ≡ false → too_long b ≡ false → Takes s room (unwrap_or b blank)
+    go None i n l = absurd (false≢true (sym n))
+    go (Some m) i n l =
+        let f = (best_is_first (OnChannel channel) s.receives).first m i in
+        record { stood = standing f.before f.behind m (all s.receives) f.stands; room_fits = ltb-false _ _ l }
 
 pub take_takes : (s : Station) (channel room : ℕ) → TakesAll s room (take_rule s channel room)
 unfolding take_rule moved unless taking
@@ -109,8 +118,7 @@ take_takes s channel room =
     pick_keeps (TakesAll s room) _ _ _
     (pick_keeps_if (TakesAll s room) (eqb (take_refusal channel (best_on s channel) room) 0) _ _
     (λ z m e.
-    let same : (best_on s channel).message ≡ m = cc in
-    subst (Takes s room) same (taken_good s channel room (eqb-true _ _ z)))
+    subst (Takes s room) (same_Some _ _ e) (taken_good s channel room (eqb-true _ _ z)))
     (λ m e. absurd (no_payload e)))
     (λ m e. absurd (no_payload e))
 
@@ -128,19 +136,17 @@ module _ (l : Messages) where
 
   acknowledge_has : (s : Station) (from k : ℕ) → Has s → Has (acknowledge s from k)
   unfolding acknowledge landed
-  acknowledge_has s from k h = pick_keeps Has (acknowledged s from k) _ s (pick_keeps Has (flight (awaited_of s)).on _ s h h) h
+  acknowledge_has s from k h = pick_keeps Has (acknowledged s from k) _ s (map_or_keeps Has (leave s) (flight (awaited_of s)) s (λ p. h) h) h
 
   flight_has : (k : Loss) → LossHas k → LossHas (give_up_flight k)
   unfolding give_up_flight give_up_at
   flight_has k h =
-      pick_keeps LossHas (flight (awaited_of k.station)).on _ k
-      (pick_keeps LossHas (message_at k.station (flight (awaited_of k.station)).place).some _ k h h)
-      h
+      map_or_keeps LossHas _ (flight (awaited_of k.station)) k (λ p. map_or_keeps LossHas _ (message_at k.station p) k (λ m. h) h) h
 
-  failed_has : (s : Station) (w : Whom) → Has s → StruckHas (failed s w)
+  failed_has : (s : Station) (w : Option ℕ) → Has s → StruckHas (failed s w)
   unfolding failed strike_heard strike_other give_up_to
-  failed_has s Nobody h = h
-  failed_has s (Member p) h =
+  failed_has s None h = h
+  failed_has s (Some p) h =
       pick_keeps StruckHas (eqb p s.own) _ _ (flight_has (nothing_gone (strike s p)) h)
       (pick_keeps StruckHas (alone (strike s p)) _ _ (flight_has (give_up_to (strike s p) p) h) h)
 
@@ -150,11 +156,11 @@ pub record Stores (before : Messages) (p : Packet) (m : Message) (after : Messag
   pub length_is : m.length ≡ information_length p
 
 receive_joins : (s : Station) (x : Message) → length s.receives.items ≡ 16 → x.place ≡ lowest_free (all s.receives) → (m : Message)
-    → (receive s x).payload ≡ Of m → (x ≡ m) × JoinsList s.receives m (receive s x).station.receives
+    → (receive s x).payload ≡ Some m → (x ≡ m) × JoinsList s.receives m (receive s x).station.receives
 unfolding receive
 receive_joins s x array free m =
     pick_either
-    (λ (t : Stored). t.payload ≡ Of m → (x ≡ m) × JoinsList s.receives m t.station.receives)
+    (λ (t : Stored). t.payload ≡ Some m → (x ≡ m) × JoinsList s.receives m t.station.receives)
     (leb 16 s.receives.len) _ _
     (λ b e. absurd (no_payload e))
     (λ b e.
@@ -162,7 +168,7 @@ receive_joins s x array free m =
     (same, subst (λ (y : Message). JoinsList s.receives y (pushed s.receives x)) same (push_joins s.receives x array (leb-false _ _ b) free)))
 
 stored_joins : (s : Station) → length s.receives.items ≡ 16 → (ring : List ℕ) (from : ℕ) (p : Packet) (m : Message)
-    → (stored s from (frame_of ring p)).payload ≡ Of m → Stores s.receives p m (stored s from (frame_of ring p)).station.receives
+    → (stored s from (frame_of ring p)).payload ≡ Some m → Stores s.receives p m (stored s from (frame_of ring p)).station.receives
 unfolding stored frame_of
 stored_joins s array ring from (TokenOf p) m e = absurd (no_payload e)
 stored_joins s array ring from (TransmitOf p) m e = absurd (no_payload e)
@@ -172,7 +178,7 @@ stored_joins s array ring from (InformationOf h) m e =
 
 module _ (s : Station) (array : length s.receives.items ≡ 16) (ring : List ℕ) where
   abbrev StoresAll : Packet → Answer → Type 0
-  StoresAll p a = (m : Message) → a.payload ≡ Of m → Stores s.receives p m a.station.receives
+  StoresAll p a = (m : Message) → a.payload ≡ Some m → Stores s.receives p m a.station.receives
 
   respond_stores : (k : Struck) → k.station.receives ≡ s.receives → (from to : ℕ) (p : Packet) → StoresAll p (respond k from to (frame_of ring p))
   unfolding respond handle
@@ -200,7 +206,7 @@ pub record Hears (s : Station) (ring packet : List ℕ) (m : Message) (a : Answe
 
 module _ (s : Station) (array : length s.receives.items ≡ 16) (ring packet : List ℕ) where
   abbrev HearsAll : Answer → Type 0
-  HearsAll a = (m : Message) → a.payload ≡ Of m → Hears s ring packet m a
+  HearsAll a = (m : Message) → a.payload ≡ Some m → Hears s ring packet m a
 
   then_hears : (from to : ℕ) (d : Read) → read_packet ring packet ≡ d → HearsAll (heard_then s ring from to d)
   then_hears from to (Refused why) r m e = absurd (no_payload e)

@@ -17,8 +17,7 @@ use Rattle.packet_codec.specs.declared.packet.Packet.TheVariants.{Token as Token
 use Rattle.packet_codec.specs.declared.fields.Looked.TheVariants.{Sound}
 use Rattle.packet_codec.specs.Typed.{TypedPacket}
 use Rattle.parts.specs.Choose.{pick}
-use Rattle.parts.specs.declared.frame.Whom.{Whom}
-use Rattle.parts.specs.declared.frame.Whom.TheVariants.{Nobody, Member}
+use Rattle.std.specs.Prelude.{Option, None, Some}
 use Rattle.parts.specs.declared.frame.Frame.{Frame}
 use Rattle.parts.specs.declared.frame.Frame.TheVariants.{Token, Transmit, Information}
 use Rattle.station_theorems.specs.Small.{SmallFrame}
@@ -33,10 +32,10 @@ module _ (ring : List ℕ) (g : GoodAddresses ring) where
   unfolding belongs
   member_belongs p h = rw (lt-ltb _ _ (g.wide p h), g.own p h) (lt-ltb p (length ring) h)
 
-  failing_belongs : (w : Whom) → ((p : ℕ) → w ≡ Member p → p < length ring) → failing_bad ring (whom_address ring w) ≡ false
+  failing_belongs : (w : Option ℕ) → ((p : ℕ) → w ≡ Some p → p < length ring) → failing_bad ring (whom_address ring w) ≡ false
   unfolding failing_bad
-  failing_belongs Nobody h = refl
-  failing_belongs (Member p) h =
+  failing_belongs None h = refl
+  failing_belongs (Some p) h =
       let m : p < length ring = h p refl in
       rw (ne_eqb (address_of ring p) 0 (g.some p m), member_belongs p m)
 
@@ -64,10 +63,10 @@ module _ (ring : List ℕ) (g : GoodAddresses ring) where
 
   -- ---- positions again
 
-  whom_again : (w : Whom) → ((p : ℕ) → w ≡ Member p → p < length ring) → whom_at ring (whom_address ring w) ≡ w
+  whom_again : (w : Option ℕ) → ((p : ℕ) → w ≡ Some p → p < length ring) → whom_at ring (whom_address ring w) ≡ w
   unfolding whom_at pick
-  whom_again Nobody h = refl
-  whom_again (Member p) h =
+  whom_again None h = refl
+  whom_again (Some p) h =
       let m : p < length ring = h p refl in
       rw (ne_eqb (address_of ring p) 0 (g.some p m), g.own p m)
 

@@ -13,15 +13,14 @@ use Rattle.packet_codec.specs.Packet.{size, packet_octets, information_length}
 use Rattle.packet_codec.specs.declared.packet.Packet.{Packet}
 use Rattle.packet_codec.specs.declared.reading.Read.{Read}
 use Rattle.parts.specs.Choose.{pick}
-use Rattle.parts.specs.Frames.{fit}
+use Rattle.parts.specs.Frames.{fit, Dispatch}
 use Rattle.parts.specs.Moves.{move_of, runs}
 use Rattle.parts.specs.declared.moves.Event.TheVariants.{Heard}
 use Rattle.parts.specs.declared.frame.TokenFrame.{TokenFrame}
 use Rattle.parts.specs.declared.frame.InformationFrame.{InformationFrame}
 use Rattle.parts.specs.declared.frame.Frame.{Frame}
 use Rattle.parts.specs.declared.frame.Frame.TheVariants.{Token, Information}
-use Rattle.parts.specs.declared.frame.Dispatch.{Dispatch}
-use Rattle.parts.specs.declared.frame.Dispatch.TheVariants.{Sent}
+use Rattle.std.specs.Prelude.{Some}
 use Rattle.station.specs.Stations.{state_of, awaited_of, answered, moved, unless}
 use Rattle.station.specs.Heard.{checks, frame_rule}
 use Rattle.station.specs.declared.station.Station.{Station}
@@ -49,7 +48,7 @@ outgoing_on_wire ring g s f to o info l =
     fit_on_wire ring g f (ap (λ (n : ℕ). fit n f) o.members ∙ is_fit s.n f o.proper.fits_to_write) o.small info l
 
 -- the frame that a held record's station awaits
-pub awaited_on_wire : {rec : List ℕ} → Held rec → (f : Frame) (to : ℕ) → awaited_of (station_in rec) ≡ Sent f to → (info : List ℕ)
+pub awaited_on_wire : {rec : List ℕ} → Held rec → (f : Frame) (to : ℕ) → awaited_of (station_in rec) ≡ Some (f, to) → (info : List ℕ)
     → length info ≡ information_length (packet_of (ring_in rec) f) → OnWire (ring_in rec) f info (packet_octets (packet_of (ring_in rec) f) info)
 awaited_on_wire {rec} p f to e info l =
     let h = held_sure p in
@@ -60,7 +59,7 @@ awaited_on_wire {rec} p f to e info l =
 
 module _ (ring store : List ℕ) (f : Frame) (to : ℕ) where
   conveyed : {number : ℕ} {a : Answer} {info rec out told rec' out' told' : List ℕ} → Sending number a ring info rec out told 0 rec' out' told'
-      → a.sent ≡ Sent f to → info ≡ carried_in store f → GoodAddresses ring → to < length ring
+      → a.sent ≡ Some (f, to) → info ≡ carried_in store f → GoodAddresses ring → to < length ring
       → OnWire ring f (carried_in store f) (packet_octets (packet_of ring f) (carried_in store f)) → Conveyed ring store f to out' told'
   unfolding sent_octets sent_size sent_to
   conveyed {a = a} {info = info} {out = out} {out' = out'} {told' = told'} m e i g h w =
@@ -87,7 +86,7 @@ record SendsBy (rec store : List ℕ) (f : Frame) (to : ℕ) (rec' out' told' : 
   out : List ℕ
   told : List ℕ
   leaves : Sending number by_answer (ring_in rec) info rec out told 0 rec' out' told'
-  sends : by_answer.sent ≡ Sent f to
+  sends : by_answer.sent ≡ Some (f, to)
   keeps : Keeps rec by_answer
   awaits : AwaitsSent by_answer
   carries : info ≡ carried_in store f

@@ -12,8 +12,7 @@ use Rattle.parts.specs.Messages.{all}
 use Rattle.parts.specs.declared.list.Message.{Message}
 use Rattle.parts.proofs.Laws.Choose.{pick_true}
 use Rattle.station.specs.declared.station.Station.{Station}
-use Rattle.station.specs.declared.station.Payload.{Payload}
-use Rattle.station.specs.declared.station.Payload.TheVariants.{Of}
+use Rattle.std.specs.Prelude.{Option, Some}
 use Rattle.station.specs.declared.station.Answer.{Answer}
 use Rattle.station_theorems.proofs.Laws.Members.{standing}
 use Rattle.station_theorems.proofs.Theorems.Whole.{whole_is}
@@ -34,7 +33,7 @@ use Rattle.wire_theorems.specs.Taken.{Stored, HandedBack, TakenBack}
 -- ---- a heard frame
 
 pub frame_puts : {rec : List ℕ} → Held rec → (store : List ℕ) (from to : ℕ) (packet out told rec' store' out' told' : List ℕ) → Octets packet
-    → Hearing rec store from to packet out told 0 rec' store' out' told' → (m : Message) → (frame_answer rec from to packet).payload ≡ Of m
+    → Hearing rec store from to packet out told 0 rec' store' out' told' → (m : Message) → (frame_answer rec from to packet).payload ≡ Some m
     → Stored rec rec' store store' packet m
 unfolding received heard_information
 frame_puts {rec} p store from to packet out told rec' store' out' told' o n m moves =
@@ -70,7 +69,7 @@ frame_puts {rec} p store from to packet out told rec' store' out' told' o n m mo
 -- ---- take
 
 pub take_hands_back : {rec : List ℕ} → Held rec → (store : List ℕ) (channel : ℕ) (room told rec' room' told' : List ℕ)
-    → Taking rec store channel room told 0 rec' room' told' → (m : Message) → (take_answer rec channel room).payload ≡ Of m
+    → Taking rec store channel room told 0 rec' room' told' → (m : Message) → (take_answer rec channel room).payload ≡ Some m
     → HandedBack (ring_in rec) store room m room' told'
 unfolding taken_into taken
 take_hands_back {rec} p store channel room told rec' room' told' n m moves =
@@ -87,7 +86,7 @@ take_hands_back {rec} p store channel room told rec' room' told' n m moves =
       room_fits = t.room_fits;
       room_is =
           n.room_is
-          ∙ ap (λ (d : Payload). taken_into room (taken store d)) moves
+          ∙ ap (λ (d : Option Message). taken_into room (taken store d)) moves
           ∙ pick_true _ _ (le-leb (length (received_payload store m)) (length room) (omega (arith, long, t.room_fits)));
       told_is = n.told_is ∙ ap (taken_told (ring_in rec)) moves;
     }
@@ -95,10 +94,10 @@ take_hands_back {rec} p store channel room told rec' room' told' n m moves =
 -- ---- the theorem: from the heard frame, over any calls while the message stands, to its taking
 
 pub heard_taken : {rec : List ℕ} → Held rec → (store : List ℕ) (from to : ℕ) (packet out told rec₁ store₁ out' told' : List ℕ) → Octets packet
-    → Hearing rec store from to packet out told 0 rec₁ store₁ out' told' → (m : Message) → (frame_answer rec from to packet).payload ≡ Of m
+    → Hearing rec store from to packet out told 0 rec₁ store₁ out' told' → (m : Message) → (frame_answer rec from to packet).payload ≡ Some m
     → (rec₂ store₂ : List ℕ) → While (Received m) rec₁ store₁ rec₂ store₂
     → (channel : ℕ) (room tells rec₃ room' tells' : List ℕ) → Taking rec₂ store₂ channel room tells 0 rec₃ room' tells'
-    → (take_answer rec₂ channel room).payload ≡ Of m → TakenBack (ring_in rec₂) packet room m room' tells'
+    → (take_answer rec₂ channel room).payload ≡ Some m → TakenBack (ring_in rec₂) packet room m room' tells'
 heard_taken {rec} p store from to packet out told rec₁ store₁ out' told' o n m moves rec₂ store₂ w channel room tells rec₃ room' tells' t takes =
     let p₁ : Held rec₁ = by_frame rec store from to packet out told 0 rec₁ store₁ out' told' p o n in
     let put = frame_puts p store from to packet out told rec₁ store₁ out' told' o n m moves in

@@ -12,8 +12,7 @@ use Rattle.codec.specs.Octets.{Octets}
 use Rattle.packet_codec.specs.Packet.{kept, information_in}
 use Rattle.parts.specs.declared.list.Message.{Message}
 use Rattle.parts.specs.declared.request.Request.{Request}
-use Rattle.station.specs.declared.station.Payload.{Payload}
-use Rattle.station.specs.declared.station.Payload.TheVariants.{NoPayload, Of}
+use Rattle.std.specs.Prelude.{Option, None, Some}
 use Rattle.station.specs.declared.station.Answer.{Answer}
 use Rattle.station_theorems.proofs.Theorems.Whole.{whole_is}
 use Rattle.station_theorems.specs.Whole.{Whole}
@@ -64,9 +63,9 @@ module _ (rec : List ℕ) (h : Sure rec) (store : List ℕ) where
       call_stays store' (queued store (queue_answer rec q).payload payload) r m.store_is
       (λ z. go (eqb-true _ _ (not-false _ (buffer_good (bad_store (length store)) rec (queue_answer rec q) (sym z ∙ m.answer)))) (queue_answer rec q).payload refl)
     where
-      go : length store ≡ store_length → (d : Payload) → (queue_answer rec q).payload ≡ d → PayloadsStay rec store (queued store d payload)
-      go e NoPayload p = all_stay rec store
-      go e (Of x) p =
+      go : length store ≡ store_length → (d : Option Message) → (queue_answer rec q).payload ≡ d → PayloadsStay rec store (queued store d payload)
+      go e None p = all_stay rec store
+      go e (Some x) p =
           let j = queue_joins (station_in rec) q h.whole.shaped.sends x p in
           put_stays e x.place payload (omega (arith, j.joins.place_fits)) (omega (arith, l, j.length_fits)) j.joins.place_free
           (λ y i t. omega (arith, t, j.joins.place_fits))
@@ -79,9 +78,9 @@ module _ (rec : List ℕ) (h : Sure rec) (store : List ℕ) where
       call_stays store' (store_heard store packet a.payload) r m.store_is
       (λ z. go (store_sized rec a (length store) (length out) (sym z ∙ m.sending.answer)) a.payload refl)
     where
-      go : length store ≡ store_length → (d : Payload) → (frame_answer rec from to packet).payload ≡ d → PayloadsStay rec store (store_heard store packet d)
-      go e NoPayload p = all_stay rec store
-      go e (Of x) p =
+      go : length store ≡ store_length → (d : Option Message) → (frame_answer rec from to packet).payload ≡ d → PayloadsStay rec store (store_heard store packet d)
+      go e None p = all_stay rec store
+      go e (Some x) p =
           let k = packet_hears (station_in rec) h.whole.shaped.receives (ring_in rec) packet from to x p in
           let j = k.stores.joins in
           let l = heard_sized (ring_in rec) packet k.from_packet o k.reads x.length k.stores.length_is in

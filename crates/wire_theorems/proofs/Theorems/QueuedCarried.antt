@@ -8,14 +8,14 @@ use native.Mathlib.Omega.{arith}
 use borrow.Author.Tests.{eqb-true, eqb-false, not-false}
 use lib.Dec.{eqb}
 use lib.ListN.{length}
-use Rattle.parts.specs.Messages.{all, best_of, no_best, the_best}
+use Rattle.std.proofs.lemmas.Option.{same_Some}
+use Rattle.parts.specs.Messages.{all, best_of}
 use Rattle.parts.specs.Moves.{move_of}
 use Rattle.parts.specs.declared.moves.State.{State}
 use Rattle.parts.specs.declared.moves.State.TheVariants.{Offline, Idle, Waiting, Alone, Excluded}
 use Rattle.parts.specs.declared.moves.Event.TheVariants.{Queue}
 use Rattle.parts.specs.declared.list.Message.{Message}
 use Rattle.parts.specs.declared.list.Messages.{Messages}
-use Rattle.parts.specs.declared.list.Best.{Best}
 use Rattle.parts.specs.declared.list.Which.TheVariants.{HasPlace}
 use Rattle.parts.specs.declared.request.Request.{Request}
 use Rattle.parts.specs.declared.frame.InformationFrame.{InformationFrame}
@@ -23,7 +23,7 @@ use Rattle.parts.specs.declared.frame.Frame.TheVariants.{Information}
 use Rattle.station.specs.Stations.{state_of, answered, moved, unless}
 use Rattle.station.specs.Queue.{new_message, queue_number, accepted, queue_rule}
 use Rattle.station.specs.declared.station.Station.{Station}
-use Rattle.station.specs.declared.station.Payload.TheVariants.{Of}
+use Rattle.std.specs.Prelude.{None, Some}
 use Rattle.station.specs.declared.station.Answer.{Answer}
 use Rattle.wholeness.specs.Whole.{apart}
 use Rattle.station_theorems.proofs.Laws.Carried.{best_found}
@@ -48,7 +48,7 @@ use Rattle.wire_theorems.specs.Carried.{Queued, CarriesMessage, OfMessage, Carri
 
 -- an accepted message moves its payload
 abbrev ZeroPuts : Station → Request → Answer → Type 0
-ZeroPuts s q a = a.number ≡ 0 → a.payload ≡ Of (new_message s q)
+ZeroPuts s q a = a.number ≡ 0 → a.payload ≡ Some (new_message s q)
 
 queue_runs : (st : State) → move_of st Queue ≡ 0 → ⊥
 queue_runs Offline e = omega (arith, e)
@@ -74,7 +74,7 @@ queue_puts {rec} p store q payload rec' store' l n =
     let h = held_sure p in
     let k = queue_sure rec h q in
     let sized : length store ≡ store_length = eqb-true _ _ (not-false _ (buffer_good (bad_store (length store)) rec a n.answer)) in
-    let moves : a.payload ≡ Of m = zero_puts s q (own_number (bad_store (length store)) rec a n.answer) in
+    let moves : a.payload ≡ Some m = zero_puts s q (own_number (bad_store (length store)) rec a n.answer) in
     let j = queue_joins s q h.whole.shaped.sends m moves in
     let within : m.place < 32 = omega (arith, j.joins.place_fits) in
     let short : length payload ≤ 1492 = omega (arith, l, j.length_fits) in
@@ -97,9 +97,9 @@ same_place : (l : Messages) → apart [] (all l) ≡ true → (m c : Message) �
 same_place l a m c h k e =
     let u = stood h in
     let v = stood k in
-    let x : best_of (HasPlace m.place) (all l) no_best ≡ the_best m = best_found (all l) u.0 u.1 m a u.2 in
-    let y : best_of (HasPlace c.place) (all l) no_best ≡ the_best c = best_found (all l) v.0 v.1 c a v.2 in
-    ap (λ (b : Best). b.message) (sym y ∙ ap (λ (n : ℕ). best_of (HasPlace n) (all l) no_best) e ∙ x)
+    let x : best_of (HasPlace m.place) (all l) None ≡ Some m = best_found (all l) u.0 u.1 m a u.2 in
+    let y : best_of (HasPlace c.place) (all l) None ≡ Some c = best_found (all l) v.0 v.1 c a v.2 in
+    same_Some _ _ (sym y ∙ ap (λ (n : ℕ). best_of (HasPlace n) (all l) None) e ∙ x)
 
 pub carries_message : {rec store : List ℕ} {i : InformationFrame} {to : ℕ} {rec' out' told' : List ℕ} → Held rec
     → Sends rec store (Information i) to rec' out' told' → (m : Message) → ToSend m rec' → m.place ≡ i.place → CarriesMessage store i to m

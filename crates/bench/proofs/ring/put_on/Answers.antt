@@ -2,10 +2,10 @@
 use Rattle.bench.specs.Ring.{on_wire}
 use Rattle.bench.proofs.ring.put_on.Goals as goal
 
-pub returns-in-Nothing : goal.returns-in-Nothing
+pub returns-in-None : goal.returns-in-None
 unfolding on_wire
-returns-in-Nothing c = rw c.in-Nothing.is
+returns-in-None c = rw c.in-None.is
 
-pub returns-in-Sent : goal.returns-in-Sent
+pub returns-in-Some : goal.returns-in-Some
 unfolding on_wire
-returns-in-Sent c = rw c.in-Sent.is
+returns-in-Some c = rw c.in-Some.is

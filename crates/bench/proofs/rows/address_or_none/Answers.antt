@@ -2,5 +2,5 @@
 use mathlib.Core.Path.{◌∙◌}
 use Rattle.bench.proofs.rows.address_or_none.Goals as goal
 
-pub returns-in-Member : goal.returns-in-Member
-returns-in-Member c = c.address_of.ensures ∙ rw c.in-Member.is
+pub returns-in-Some : goal.returns-in-Some
+returns-in-Some c = c.address_of.ensures ∙ rw c.in-Some.is

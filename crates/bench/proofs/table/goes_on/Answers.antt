@@ -6,8 +6,8 @@ use Rattle.bench.proofs.table.goes_on.Goals as goal
 pub returns-then-g : goal.returns-then-g
 returns-then-g c = over_on c.args.g c.if-g.true
 
-pub returns-in-Sent : goal.returns-in-Sent
-returns-in-Sent c = sent_on c.args.g _ _ (omega arith) c.in-Sent.is
+pub returns-in-Some : goal.returns-in-Some
+returns-in-Some c = sent_on c.args.g _ _ (omega arith) c.in-Some.is
 
-pub returns-in-Nothing : goal.returns-in-Nothing
-returns-in-Nothing c = none_on c.args.g (omega arith) c.in-Nothing.is
+pub returns-in-None : goal.returns-in-None
+returns-in-None c = none_on c.args.g (omega arith) c.in-None.is

@@ -1,6 +1,6 @@
 -- `table::hear_at` meets its contract: a frame that changes the turn alone leaves everything else of the station.
 use Rattle.std.proofs.Common.{◌≡◌, ap, sym, ◌∙◌, true, ℕ, List, get_or, set}
-use Rattle.parts.specs.declared.frame.Dispatch.{Dispatch}
+use Rattle.parts.specs.Frames.{Dispatch}
 use Rattle.parts.specs.declared.frame.Frame.{Frame}
 use Rattle.station.specs.Decide.{decided, turned_by}
 use Rattle.station.specs.Deeds.{turn_alone}

@@ -10,4 +10,4 @@ returns-in_default c =
 pub returns : goal.returns
 returns c =
     let a = c.args in
-    wire_some a.w a.out.now a.at _ _ _ _ _ c.in-Sent.is c.row_of-row.ensures c.put_row.ensures.0 c.put_row.ensures.1
+    wire_some a.w a.out.now a.at _ _ _ _ _ c.in-Some.is c.row_of-row.ensures c.put_row.ensures.0 c.put_row.ensures.1

@@ -2,6 +2,7 @@
 use mathlib.Core.Path.{sym, ap, ◌∙◌}
 use Prim.Native.Nat.{ℕ}
 use lib.Dec.{ltb}
+use Rattle.std.specs.Prelude.{Some}
 use Rattle.day.specs.Wire.{flying_of}
 use Rattle.day.specs.Plans.{call_for}
 use Rattle.day.specs.declared.calls.Call.TheVariants.{TimerCall}
@@ -9,7 +10,7 @@ use Rattle.day.proofs.plan.call_for.Goals as goal
 
 pub returns-in-Timer : goal.returns-in-Timer
 returns-in-Timer c =
-    let a = c.args in ap (λ (n : ℕ). TimerCall (ltb n 64)) c.count-room.ensures ∙ sym (ap (call_for (flying_of a.w)) c.in-Timer.is)
+    let a = c.args in ap (λ (n : ℕ). Some (TimerCall (ltb n 64))) c.count-room.ensures ∙ sym (ap (call_for (flying_of a.w)) c.in-Timer.is)
 
 pub returns-in-Queue : goal.returns-in-Queue
 returns-in-Queue c =

@@ -13,4 +13,4 @@ returns-then-not-heeds c =
 
 pub returns : goal.returns
 returns c =
-    let a = c.args in c.live_at.ensures ∙ strikes_live a.s a.p a.h _ (sym c.failing_of-failing.ensures ∙ c.in-Member.is) (sym c.heeds.ensures ∙ c.if-not-heeds.false)
+    let a = c.args in c.live_at.ensures ∙ strikes_live a.s a.p a.h _ (sym c.failing_of-failing.ensures ∙ c.in-Some.is) (sym c.heeds.ensures ∙ c.if-not-heeds.false)

@@ -8,4 +8,4 @@ returns-in_default c =
 
 pub returns : goal.returns
 returns c =
-    let a = c.args in struck_one a.out.now _ a.at _ _ a.q a.w c.in-Member.is c.put_strike.ensures
+    let a = c.args in struck_one a.out.now _ a.at _ _ a.q a.w c.in-Some.is c.put_strike.ensures

@@ -4,10 +4,10 @@ use Rattle.codec.proofs.Laws.Octets.{laid_none}
 use Rattle.driver_buffers.specs.Packets.{sent_octets}
 use Rattle.driver_buffers.proofs.packets.compose.Goals as goal
 
-pub returns-in-Nothing : goal.returns-in-Nothing
+pub returns-in-None : goal.returns-in-None
 unfolding sent_octets
-returns-in-Nothing c = rw c.in-Nothing.is (sym (laid_none _ 0))
+returns-in-None c = rw c.in-None.is (sym (laid_none _ 0))
 
-pub returns-in-Sent : goal.returns-in-Sent
+pub returns-in-Some : goal.returns-in-Some
 unfolding sent_octets
-returns-in-Sent c = c.lay.ensures ∙ rw (c.in-Sent.is, c.packet_of-p.ensures)
+returns-in-Some c = c.lay.ensures ∙ rw (c.in-Some.is, c.packet_of-p.ensures)

@@ -3,10 +3,10 @@ use mathlib.Core.Path.{◌∙◌}
 use Rattle.driver_buffers.specs.Packets.{sent_size}
 use Rattle.driver_buffers.proofs.packets.sent_size.Goals as goal
 
-pub returns-in-Nothing : goal.returns-in-Nothing
+pub returns-in-None : goal.returns-in-None
 unfolding sent_size
-returns-in-Nothing c = rw c.in-Nothing.is
+returns-in-None c = rw c.in-None.is
 
-pub returns-in-Sent : goal.returns-in-Sent
+pub returns-in-Some : goal.returns-in-Some
 unfolding sent_size
-returns-in-Sent c = c.size.ensures ∙ rw (c.in-Sent.is, c.packet_of.ensures)
+returns-in-Some c = c.size.ensures ∙ rw (c.in-Some.is, c.packet_of.ensures)

@@ -2,10 +2,10 @@
 use Rattle.driver_buffers.specs.Packets.{sent_to}
 use Rattle.driver_buffers.proofs.packets.sent_to.Goals as goal
 
-pub returns-in-Nothing : goal.returns-in-Nothing
+pub returns-in-None : goal.returns-in-None
 unfolding sent_to
-returns-in-Nothing c = rw c.in-Nothing.is
+returns-in-None c = rw c.in-None.is
 
-pub returns-in-Sent : goal.returns-in-Sent
+pub returns-in-Some : goal.returns-in-Some
 unfolding sent_to
-returns-in-Sent c = rw c.in-Sent.is c.address_of.ensures
+returns-in-Some c = rw c.in-Some.is c.address_of.ensures

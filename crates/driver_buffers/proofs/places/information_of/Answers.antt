@@ -3,10 +3,10 @@ use Rattle.driver_buffers.specs.Places.{information_of}
 use borrow.Author.Rules.{rules}
 use Rattle.driver_buffers.proofs.places.information_of.Goals as goal
 
-pub returns-in-Nothing : goal.returns-in-Nothing
+pub returns-in-None : goal.returns-in-None
 unfolding information_of
-returns-in-Nothing c = search rules
+returns-in-None c = search rules
 
-pub returns-in-Sent : goal.returns-in-Sent
+pub returns-in-Some : goal.returns-in-Some
 unfolding information_of
-returns-in-Sent c = rw c.in-Sent.is c.carried_in.ensures
+returns-in-Some c = rw c.in-Some.is c.carried_in.ensures

@@ -3,10 +3,10 @@ use Rattle.driver_buffers.specs.Places.{received}
 use borrow.Author.Rules.{rules}
 use Rattle.driver_buffers.proofs.places.put_received.Goals as goal
 
-pub returns-in-NoPayload : goal.returns-in-NoPayload
+pub returns-in-None : goal.returns-in-None
 unfolding received
-returns-in-NoPayload c = search rules
+returns-in-None c = search rules
 
-pub returns-in-Of : goal.returns-in-Of
+pub returns-in-Some : goal.returns-in-Some
 unfolding received
-returns-in-Of c = rw c.in-Of.is c.put_place.ensures
+returns-in-Some c = rw c.in-Some.is c.put_place.ensures

@@ -3,10 +3,10 @@ use Rattle.driver_buffers.specs.Places.{taken}
 use borrow.Author.Rules.{rules}
 use Rattle.driver_buffers.proofs.places.taken_part.Goals as goal
 
-pub returns-in-NoPayload : goal.returns-in-NoPayload
+pub returns-in-None : goal.returns-in-None
 unfolding taken
-returns-in-NoPayload c = search rules
+returns-in-None c = search rules
 
-pub returns-in-Of : goal.returns-in-Of
+pub returns-in-Some : goal.returns-in-Some
 unfolding taken
-returns-in-Of c = rw c.in-Of.is c.in_place.ensures
+returns-in-Some c = rw c.in-Some.is c.in_place.ensures

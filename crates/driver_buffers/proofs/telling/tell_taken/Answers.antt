@@ -2,10 +2,10 @@
 use Rattle.driver_buffers.specs.Telling.{taken_told}
 use Rattle.driver_buffers.proofs.telling.tell_taken.Goals as goal
 
-pub returns-in-NoPayload : goal.returns-in-NoPayload
+pub returns-in-None : goal.returns-in-None
 unfolding taken_told
-returns-in-NoPayload c = rw c.in-NoPayload.is
+returns-in-None c = rw c.in-None.is
 
-pub returns-in-Of : goal.returns-in-Of
+pub returns-in-Some : goal.returns-in-Some
 unfolding taken_told
-returns-in-Of c = rw (c.in-Of.is, c.address_of-other.ensures)
+returns-in-Some c = rw (c.in-Some.is, c.address_of-other.ensures)

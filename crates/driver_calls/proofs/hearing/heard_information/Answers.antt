@@ -4,9 +4,9 @@ use Rattle.driver_calls.proofs.Laws.Hearing.{information_heard}
 use borrow.Author.Rules.{rules}
 use Rattle.driver_calls.proofs.hearing.heard_information.Goals as goal
 
-pub returns-in-NoPayload : goal.returns-in-NoPayload
+pub returns-in-None : goal.returns-in-None
 unfolding heard_information
-returns-in-NoPayload c = search rules
+returns-in-None c = search rules
 
-pub returns-in-Of : goal.returns-in-Of
-returns-in-Of c = information_heard _ _ _ _ c.in-Of.is c.information_in.ensures
+pub returns-in-Some : goal.returns-in-Some
+returns-in-Some c = information_heard _ _ _ _ c.in-Some.is c.information_in.ensures

@@ -2,10 +2,10 @@
 use Rattle.parts.specs.Frames.{acknowledges}
 use Rattle.parts.proofs.frame.acknowledges.Goals as goal
 
-pub returns-in-Nothing : goal.returns-in-Nothing
+pub returns-in-None : goal.returns-in-None
 unfolding acknowledges
-returns-in-Nothing c = rw c.in-Nothing.is
+returns-in-None c = rw c.in-None.is
 
-pub returns-in-Sent : goal.returns-in-Sent
+pub returns-in-Some : goal.returns-in-Some
 unfolding acknowledges
-returns-in-Sent c = simp (c.in-Sent.is, c.is_ahead.ensures, c.number_of-own.ensures)
+returns-in-Some c = simp (c.in-Some.is, c.is_ahead.ensures, c.number_of-own.ensures)

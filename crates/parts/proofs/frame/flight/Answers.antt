@@ -2,8 +2,8 @@
 use Rattle.std.proofs.Common.{◌∙◌}
 use Rattle.parts.proofs.frame.flight.Goals as goal
 
-pub returns-in-Nothing : goal.returns-in-Nothing
-returns-in-Nothing c = rw c.in-Nothing.is
+pub returns-in-None : goal.returns-in-None
+returns-in-None c = rw c.in-None.is
 
-pub returns-in-Sent : goal.returns-in-Sent
-returns-in-Sent c = c.flight_in.ensures ∙ rw c.in-Sent.is
+pub returns-in-Some : goal.returns-in-Some
+returns-in-Some c = c.flight_in.ensures ∙ rw c.in-Some.is

@@ -1,16 +1,15 @@
-use Rattle.std.proofs.Common.{◌≡◌, ◌+◌, ◌<◌, ◌≤◌, List, length, get_or, drop, sym, ap, ◌∙◌, arith}
+use Rattle.std.proofs.Common.{◌≡◌, ◌+◌, ◌<◌, ◌≤◌, List, length, get_or, drop, None, sym, ap, ◌∙◌, arith}
 use Rattle.parts.specs.declared.list.Message.{Message}
-use Rattle.parts.specs.declared.list.Best.{Best}
-use Rattle.parts.specs.Messages.{all, used, blank, no_best, best, best_of, standing}
-use Rattle.parts.proofs.Laws.Messages.{length_mapped, used_most, all_from, none_from, best_none, best_more, standing_off, standing_turn}
+use Rattle.parts.specs.Messages.{all, used, blank, best, best_of, standing}
+use Rattle.parts.proofs.Laws.Messages.{length_mapped, used_most, all_from, none_from, best_none, best_more, standing_off, standing_turn, height}
 use Rattle.parts.proofs.list.chosen_at.Goals as goal
 
 pub loop-i-init : goal.loop-i-init
 unfolding best
 loop-i-init c =
     let l = c.args.l in
-    let none : standing l 16 ≡ no_best = standing_off l 16 (omega arith) in
-    (omega arith, c.count-n.ensures, ap (best_of c.args.w (all l)) (sym none), ap (λ (x : Best). x.message.priority) (sym none))
+    let none : standing l 16 ≡ None = standing_off l 16 (omega arith) in
+    (omega arith, c.count-n.ensures, ap (best_of c.args.w (all l)) (sym none), ap height (sym none))
 
 pub offset_bounds-l-i : goal.offset_bounds-l-i
 offset_bounds-l-i c = omega (arith, used_most c.args.l)

@@ -7,14 +7,14 @@ pub returns-then-channel-gt7 : goal.returns-then-channel-gt7
 unfolding take_refusal
 returns-then-channel-gt7 c = rw (lt-ltb _ _ c.if-channel-gt7.true)
 
-pub returns-then-not-b : goal.returns-then-not-b
+pub returns-in_default : goal.returns-in_default
 unfolding take_refusal
-returns-then-not-b c = rw (le-ltb _ _ c.if-channel-gt7.false, c.if-not-b.true)
+returns-in_default c = rw (le-ltb _ _ c.if-channel-gt7.false, c.in_default.is)
 
-pub returns-then-room-b : goal.returns-then-room-b
+pub returns-then-room-m : goal.returns-then-room-m
 unfolding take_refusal
-returns-then-room-b c = rw (le-ltb _ _ c.if-channel-gt7.false, c.if-not-b.false, lt-ltb _ _ c.if-room-b.true)
+returns-then-room-m c = rw (le-ltb _ _ c.if-channel-gt7.false, c.in-Some.is, lt-ltb _ _ c.if-room-m.true)
 
 pub returns : goal.returns
 unfolding take_refusal
-returns c = rw (le-ltb _ _ c.if-channel-gt7.false, c.if-not-b.false, le-ltb _ _ c.if-room-b.false)
+returns c = rw (le-ltb _ _ c.if-channel-gt7.false, c.in-Some.is, le-ltb _ _ c.if-room-m.false)

@@ -2,10 +2,10 @@
 use Rattle.records.specs.Fields.{slip_of}
 use Rattle.records.proofs.slip.slip_of.Goals as goal
 
-pub returns-in-Nothing : goal.returns-in-Nothing
+pub returns-in-None : goal.returns-in-None
 unfolding slip_of
-returns-in-Nothing c = rw c.in-Nothing.is c.no_slip.ensures
+returns-in-None c = rw c.in-None.is c.no_slip.ensures
 
-pub returns-in-Sent : goal.returns-in-Sent
+pub returns-in-Some : goal.returns-in-Some
 unfolding slip_of
-returns-in-Sent c = rw c.in-Sent.is c.slip_to.ensures
+returns-in-Some c = rw c.in-Some.is c.slip_to.ensures

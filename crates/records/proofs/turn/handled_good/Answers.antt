@@ -5,16 +5,16 @@ use Prim.Native.Nat.{ℕ}
 use lib.Dec.{eqb}
 use borrow.Author.Tests.{eq-eqb, ne_eqb}
 use Rattle.parts.specs.Choose.{pick}
-use Rattle.station.specs.declared.station.Handled.{Handled}
+use Rattle.std.specs.Prelude.{Option}
 use Rattle.records.specs.Fields.{handled_flag, handled_number, handled_from, handled_good}
 use Rattle.records.proofs.turn.handled_good.Goals as goal
 
 -- the two tests, one after the other
-good_is : (h : Handled) (flag k f n : ℕ) → h ≡ handled_from flag k → f ≡ handled_flag h → n ≡ handled_number h → f ≡ flag → eqb n k ≡ handled_good flag k
+good_is : (h : Option ℕ) (flag k f n : ℕ) → h ≡ handled_from flag k → f ≡ handled_flag h → n ≡ handled_number h → f ≡ flag → eqb n k ≡ handled_good flag k
 unfolding pick
 good_is h flag k f n eh ef en e = rw (← eh, ← ef, ← en, eq-eqb f flag e)
 
-bad_is : (h : Handled) (flag k f : ℕ) → h ≡ handled_from flag k → f ≡ handled_flag h → (f ≡ flag → ⊥) → false ≡ handled_good flag k
+bad_is : (h : Option ℕ) (flag k f : ℕ) → h ≡ handled_from flag k → f ≡ handled_flag h → (f ≡ flag → ⊥) → false ≡ handled_good flag k
 unfolding pick
 bad_is h flag k f eh ef n = rw (← eh, ← ef, ne_eqb f flag n)
 

@@ -1,37 +1,30 @@
-use mathlib.Core.Path.{refl, sym, ap, ◌∙◌}
-use Prim.Native.Nat.{◌+◌}
-use native.Mathlib.Omega.{arith}
-use lib.ListN.{drop}
-use Rattle.script.specs.Reading.{fed_from}
-use Rattle.script.specs.declared.reading.Held.{Held}
-use Rattle.script.proofs.Laws.Reading.{feed_done, feed_whole, feed_more}
+use Rattle.std.proofs.Common.{List, ℕ, sym, ap, ◌∙◌}
+use Rattle.script.specs.Reading.{Fed, fed_from}
+use Rattle.script.proofs.Laws.Reading.{fed_none, fed_end, fed_on}
 use Rattle.script.proofs.reading.feed.Goals as goal
 
-pub loop-i-init : goal.loop-i-init
-loop-i-init c = refl
+pub returns-then-c-eq10-clause-held : goal.returns-then-c-eq10-clause-held
+returns-then-c-eq10-clause-held c =
+    let l = c.loop-c in
+    ap (λ (f : Fed). f.held) (sym (fed_end l.held.items l.rest.now c.in-Some.c.now c.in-Some.behind.now c.in-Some.ensures.cases.0 c.if-c-eq10.true) ∙ l.invariant)
 
-pub bounds-s-i : goal.bounds-s-i
-bounds-s-i c = omega arith
+pub returns-then-c-eq10-clause-rest : goal.returns-then-c-eq10-clause-rest
+returns-then-c-eq10-clause-rest c =
+    let l = c.loop-c in
+    ap (λ (f : Fed). f.rest) (sym (fed_end l.held.items l.rest.now c.in-Some.c.now c.in-Some.behind.now c.in-Some.ensures.cases.0 c.if-c-eq10.true) ∙ l.invariant)
 
-pub overflow_add-i : goal.overflow_add-i
-overflow_add-i c = omega arith
+pub loop-c-preserved : goal.loop-c-preserved
+loop-c-preserved c =
+    let l = c.loop-c in
+    ap (λ (h : List ℕ). fed_from h c.in-Some.behind.now) c.keep.ensures
+    ∙ sym (fed_on l.held.items l.rest.now c.in-Some.c.now c.in-Some.behind.now c.in-Some.ensures.cases.0 c.if-c-eq10.false) ∙ l.invariant
 
-pub returns-then-c-eq10 : goal.returns-then-c-eq10
-returns-then-c-eq10 c =
-    let l = c.loop-i in
-    sym (feed_whole c.args.s.now l.i l.held c.loop-i-test.true c.if-c-eq10.true) ∙ l.invariant
+pub returns-clause-held : goal.returns-clause-held
+returns-clause-held c =
+    let l = c.loop-c in
+    ap (λ (f : Fed). f.held) (sym (fed_none l.held.items l.rest.now c.in_default.ensures.cases) ∙ l.invariant)
 
-pub loop-i-smaller : goal.loop-i-smaller
-loop-i-smaller c = omega (arith, c.loop-i-test.true)
-
-pub loop-i-preserved : goal.loop-i-preserved
-loop-i-preserved c =
-    let l = c.loop-i in
-    let s = c.args.s.now in
-    ap (λ (h : Held). fed_from h (drop (l.i + 1) s) (l.i + 1)) c.keep-held.ensures
-    ∙ sym (feed_more s l.i l.held c.loop-i-test.true c.if-c-eq10.false) ∙ l.invariant
-
-pub returns : goal.returns
-returns c =
-    let l = c.loop-i in
-    sym (feed_done c.args.s.now l.i l.held c.loop-i-test.false) ∙ l.invariant
+pub returns-clause-rest : goal.returns-clause-rest
+returns-clause-rest c =
+    let l = c.loop-c in
+    ap (λ (f : Fed). f.rest) (sym (fed_none l.held.items l.rest.now c.in_default.ensures.cases) ∙ l.invariant)

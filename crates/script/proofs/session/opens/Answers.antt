@@ -1,12 +1,11 @@
--- `session::opens` meets its contract: the three tests in order.
-use Rattle.script.proofs.Laws.Session.{opens_begun, opens_low, opens_high}
+use Rattle.std.proofs.Common.{arith}
+use Rattle.std.proofs.lemmas.Bool.Decides.{nat_tests}
+use Rattle.script.specs.Script.{opens}
 use Rattle.script.proofs.session.opens.Goals as goal
 
-pub returns-then-begun : goal.returns-then-begun
-returns-then-begun c = opens_begun c.args.begun c.args.n c.if-begun.true
-
-pub returns-then-n-lt2 : goal.returns-then-n-lt2
-returns-then-n-lt2 c = opens_low c.args.begun c.args.n c.if-begun.false c.if-n-lt2.true
-
 pub returns : goal.returns
-returns c = opens_high c.args.begun c.args.n c.if-begun.false c.if-n-lt2.false
+unfolding opens
+returns c =
+    let range = c.new.ensures in
+    let e = rw (range.start, range.end, range.exhausted) at c.contains.ensures.value in
+    grind (arith, nat_tests)

@@ -1,13 +1,12 @@
 -- `round::send_head` meets its contract: one test, whether there is a head.
-use mathlib.Core.Path.{sym, ◌∙◌}
-use Rattle.parts.proofs.Laws.Choose.{pick_true, pick_false}
+use mathlib.Core.Path.{◌∙◌}
 use Rattle.sent.specs.Round.{send_head}
 use Rattle.sent.proofs.round.send_head.Goals as goal
 
-pub returns-then-b : goal.returns-then-b
+pub returns-in-Some : goal.returns-in-Some
 unfolding send_head
-returns-then-b c = sym (pick_true _ _ c.if-b.true)
+returns-in-Some c = rw c.in-Some.is
 
 pub returns : goal.returns
 unfolding send_head
-returns c = c.start_round.ensures ∙ sym (pick_false _ _ c.if-b.false)
+returns c = c.start_round.ensures ∙ rw c.in_default.is

@@ -4,9 +4,9 @@ use mathlib.Core.Bool.{not}
 use Rattle.wholeness.specs.Whole.{awaited_good}
 use Rattle.wholeness.proofs.whole.awaited_good.Goals as goal
 
-pub returns-in-Nothing : goal.returns-in-Nothing
+pub returns-in-None : goal.returns-in-None
 unfolding awaited_good
-returns-in-Nothing c = rw c.in-Nothing.is (ap not c.is_waiting.ensures)
+returns-in-None c = rw c.in-None.is (ap not c.is_waiting.ensures)
 
-pub returns-in-Sent : goal.returns-in-Sent
-returns-in-Sent c = c.frame_good.ensures ∙ rw c.in-Sent.is
+pub returns-in-Some : goal.returns-in-Some
+returns-in-Some c = c.frame_good.ensures ∙ rw c.in-Some.is

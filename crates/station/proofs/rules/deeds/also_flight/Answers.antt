@@ -1,13 +1,12 @@
 -- `deeds::also_flight` meets its contract: one test, whether a message is in flight.
-use mathlib.Core.Path.{sym, ◌∙◌}
-use Rattle.parts.proofs.Laws.Choose.{pick_true, pick_false}
+use mathlib.Core.Path.{◌∙◌}
 use Rattle.station.specs.Deeds.{also_flight}
 use Rattle.station.proofs.rules.deeds.also_flight.Goals as goal
 
-pub returns-then-f : goal.returns-then-f
+pub returns-in-None : goal.returns-in-None
 unfolding also_flight
-returns-then-f c = c.also_at.ensures ∙ sym (pick_true _ _ c.if-f.true)
+returns-in-None c = rw c.in-None.is
 
-pub returns : goal.returns
+pub returns-in-Some : goal.returns-in-Some
 unfolding also_flight
-returns c = sym (pick_false _ _ c.if-f.false)
+returns-in-Some c = c.also_at.ensures ∙ rw c.in-Some.is

@@ -3,10 +3,10 @@ use mathlib.Core.Path.{◌∙◌}
 use Rattle.station.specs.Deeds.{received}
 use Rattle.station.proofs.rules.deeds.receive.Goals as goal
 
-pub returns-in-NoPayload : goal.returns-in-NoPayload
+pub returns-in-None : goal.returns-in-None
 unfolding received
-returns-in-NoPayload c = rw c.in-NoPayload.is
+returns-in-None c = rw c.in-None.is
 
-pub returns-in-Of : goal.returns-in-Of
+pub returns-in-Some : goal.returns-in-Some
 unfolding received
-returns-in-Of c = c.received_one.ensures ∙ rw c.in-Of.is
+returns-in-Some c = c.received_one.ensures ∙ rw c.in-Some.is

@@ -3,10 +3,10 @@ use mathlib.Core.Path.{◌∙◌}
 use Rattle.station.specs.Decide.{blow_of}
 use Rattle.station.proofs.rules.heard.blow_of.Goals as goal
 
-pub returns-in-Nobody : goal.returns-in-Nobody
+pub returns-in-None : goal.returns-in-None
 unfolding blow_of
-returns-in-Nobody c = rw c.in-Nobody.is
+returns-in-None c = rw c.in-None.is
 
-pub returns-in-Member : goal.returns-in-Member
+pub returns-in-Some : goal.returns-in-Some
 unfolding blow_of
-returns-in-Member c = c.blow_at.ensures ∙ rw c.in-Member.is
+returns-in-Some c = c.blow_at.ensures ∙ rw c.in-Some.is

@@ -2,10 +2,10 @@
 use Rattle.station.specs.Heard.{is_last}
 use Rattle.station.proofs.rules.heard.is_last.Goals as goal
 
-pub returns-in-Never : goal.returns-in-Never
+pub returns-in-None : goal.returns-in-None
 unfolding is_last
-returns-in-Never c = rw c.in-Never.is
+returns-in-None c = rw c.in-None.is
 
-pub returns-in-Last : goal.returns-in-Last
+pub returns-in-Some : goal.returns-in-Some
 unfolding is_last
-returns-in-Last c = rw c.in-Last.is
+returns-in-Some c = rw c.in-Some.is

@@ -2,8 +2,8 @@
 use mathlib.Core.Path.{◌∙◌}
 use Rattle.station.proofs.rules.sight.look_after.Goals as goal
 
-pub returns-in-Nobody : goal.returns-in-Nobody
-returns-in-Nobody c = c.look.ensures ∙ rw c.in-Nobody.is
+pub returns-in-None : goal.returns-in-None
+returns-in-None c = c.look.ensures ∙ rw c.in-None.is
 
-pub returns-in-Member : goal.returns-in-Member
-returns-in-Member c = c.look_without.ensures ∙ rw c.in-Member.is
+pub returns-in-Some : goal.returns-in-Some
+returns-in-Some c = c.look_without.ensures ∙ rw c.in-Some.is

@@ -9,10 +9,10 @@ pub returns-then-m-ne-RUN : goal.returns-then-m-ne-RUN
 unfolding decided_timer
 returns-then-m-ne-RUN c = c.refuse.ensures ∙ rw c.move_of-m.ensures (sym (pick_false _ _ (ne_eqb _ _ (λ e. c.if-m-ne-RUN.true (c.move_of-m.ensures ∙ e)))))
 
-pub returns-in-Nothing : goal.returns-in-Nothing
+pub returns-in-None : goal.returns-in-None
 unfolding decided_timer decided_awaiting
-returns-in-Nothing c = c.refuse-in-Nothing.ensures ∙ sym (pick_true _ _ (eq-eqb _ _ (sym c.move_of-m.ensures ∙ c.if-m-ne-RUN.false)) ∙ rw c.in-Nothing.is)
+returns-in-None c = c.refuse-in-None.ensures ∙ sym (pick_true _ _ (eq-eqb _ _ (sym c.move_of-m.ensures ∙ c.if-m-ne-RUN.false)) ∙ rw c.in-None.is)
 
-pub returns-in-Sent : goal.returns-in-Sent
+pub returns-in-Some : goal.returns-in-Some
 unfolding decided_timer decided_awaiting
-returns-in-Sent c = c.silence.ensures ∙ sym (pick_true _ _ (eq-eqb _ _ (sym c.move_of-m.ensures ∙ c.if-m-ne-RUN.false)) ∙ rw c.in-Sent.is)
+returns-in-Some c = c.silence.ensures ∙ sym (pick_true _ _ (eq-eqb _ _ (sym c.move_of-m.ensures ∙ c.if-m-ne-RUN.false)) ∙ rw c.in-Some.is)
