@@ -60,10 +60,11 @@ impl Script {
         Ok(acted.left)
     }
 
-    // A line with all of its steps. It counts no index: how many are left, each call says.
+    // A line with all of its steps. It counts no index: how many are left, each call says. What is printed is written before the next call.
     fn carry_out(&mut self, rt: &impl Print, line: Option<Line>) -> io::Result<()> {
         let mut left = self.act(rt, line)?;
         while left > 0 {
+            self.flush(rt)?;
             left = self.act(rt, Some(Line::Step(left)))?;
         }
         Ok(())
