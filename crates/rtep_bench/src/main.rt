@@ -4,7 +4,7 @@
 ghost use Rattle.std.specs.Prelude.{◌≡◌, ℕ, ◌+◌, ◌≤◌, ◌<◌, IfOk, OnOk};
 
 use bench::running::room_from;
-use script::lines::{Line, line_of};
+use script::lines::Line;
 use script::reading::{Held, feed};
 use script::session::{ROOM, Session, obey};
 use std::io;
@@ -25,7 +25,7 @@ impl Script {
     fn new() -> Script {
         Script {
             session: None,
-            held: Held::new(),
+            held: Held::none(),
             out: [0; 65536],
             used: 0,
         }
@@ -60,10 +60,11 @@ impl Script {
         Ok(acted.left)
     }
 
-    // A line with all of its steps. It counts no index: how many are left, each call says.
+    // A line with all of its steps. It counts no index: how many are left, each call says. What is printed is written before the next call.
     fn carry_out(&mut self, rt: &impl Print, line: Option<Line>) -> io::Result<()> {
         let mut left = self.act(rt, line)?;
         while left > 0 {
+            self.flush(rt)?;
             left = self.act(rt, Some(Line::Step(left)))?;
         }
         Ok(())
@@ -73,8 +74,8 @@ impl Script {
     fn take_in(&mut self, rt: &impl Print, block: &[u8]) -> io::Result<()> {
         let mut rest = block;
         while let Some(behind) = feed(&mut self.held, rest) {
-            let line = line_of(self.held.as_slice());
-            self.held.clear();
+            let line = self.held.line();
+            self.held = Held::none();
             self.carry_out(rt, line)?;
             rest = behind;
         }
@@ -83,7 +84,7 @@ impl Script {
 
     // The last line may lack its line feed.
     fn end(&mut self, rt: &impl Print) -> io::Result<()> {
-        if !self.held.is_empty() {
+        if self.held.len > 0 {
             self.take_in(rt, b"\n")?;
         }
         self.flush(rt)

@@ -56,28 +56,32 @@ fn argument<'a>(rt: &impl Env, i: usize, octets: &'a mut [u8]) -> Result<&'a str
     Ok(str::from_utf8(&octets[..n])?)
 }
 
-// A file's octets, as far as there is room.
-fn read_file<const N: usize>(rt: &impl Files, path: &str) -> io::Result<ArrayVec<u8, N>> {
-    let mut octets = ArrayVec::new();
-    io::copy(&mut fs::open(rt, path)?.take(N as u64), &mut octets)?;
-    Ok(octets)
+// Reads a file into the lent octets, as far as there is room.
+fn read_file<const N: usize>(
+    rt: &impl Files,
+    path: &str,
+    octets: &mut ArrayVec<u8, N>,
+) -> io::Result<()> {
+    io::copy(&mut fs::open(rt, path)?.take(N as u64), octets)?;
+    Ok(())
 }
 
-// The octets of the file that an argument names; none where it cannot be read, and that is said.
-fn read_named<R: Env + Files + Eprint, const N: usize>(
+// The octets of the file that an argument names, in the lent ones; none where it cannot be read, and that is said.
+fn read_named<'a, R: Env + Files + Eprint, const N: usize>(
     rt: &R,
     i: usize,
-) -> io::Result<Option<ArrayVec<u8, N>>> {
-    let mut octets = [0u8; 4096];
-    let path = match argument(rt, i, &mut octets) {
+    octets: &'a mut ArrayVec<u8, N>,
+) -> io::Result<Option<&'a [u8]>> {
+    let mut name = [0u8; 4096];
+    let path = match argument(rt, i, &mut name) {
         Ok(path) => path,
         Err(e) => {
             eprintln!(rt; "argument: {e}")?;
             return Ok(None);
         }
     };
-    match read_file(rt, path) {
-        Ok(file) => Ok(Some(file)),
+    match read_file(rt, path, octets) {
+        Ok(()) => Ok(Some(octets.as_slice())),
         Err(e) => {
             eprintln!(rt; "{path}: {e}")?;
             Ok(None)
@@ -139,6 +143,8 @@ fn refuse(rt: &impl Print, number: u32) -> io::Result<()> {
     write(rt, &out, used)
 }
 
+// Always inlined: its own frame beside that of `main` would stand on the stack above the deepest call.
+#[inline(always)]
 fn run(rt: &impl Print, file: &[u8], capture: &[u8]) -> io::Result<()> {
     let b = begin(file, capture);
     if b.number != 0 {
@@ -151,11 +157,13 @@ fn main(rt: HostRuntime) -> io::Result<()> {
     if !is_given(&rt, 2) || is_given(&rt, 3) {
         return eprintln!(rt; "usage: rtep_replay RINGFILE CAPTURE");
     }
-    let Some(file) = read_named::<_, 4096>(&rt, 1)? else {
+    let mut ring = ArrayVec::<u8, 4096>::new();
+    let Some(file) = read_named(&rt, 1, &mut ring)? else {
         return Ok(());
     };
-    let Some(capture) = read_named::<_, 65536>(&rt, 2)? else {
+    let mut day = ArrayVec::<u8, 65536>::new();
+    let Some(capture) = read_named(&rt, 2, &mut day)? else {
         return Ok(());
     };
-    run(&rt, file.as_slice(), capture.as_slice())
+    run(&rt, file, capture)
 }
